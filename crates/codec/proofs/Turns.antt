@@ -2,7 +2,7 @@
 use Prim.Native.Nat.{ℕ, suc, _+_, _*_, _/_, _%_, _^_, _≤_, _<_, _-_}
 use mathlib.Core.Path.{_≡_, refl, sym, ap, _∙_}
 use mathlib.Core.Bool.{Bool, true, false, _&&_, and-true, and-false}
-use mathlib.Core.List.{List, [], _∷_, _++_}
+use mathlib.Core.List.{List, [], _∷_}
 use native.Mathlib.Omega.{arith}
 use native.Mathlib.Nat.{add-zero, div-div-eq-div-mul, pow-le-pow-right, pow-suc, lt-of-lt-of-le}
 use native.Mathlib.Numerals.{add-one}
@@ -11,7 +11,7 @@ use lib.ListN.{length, getD, take, set}
 use lib.Seq.{take-suc, take-all, length-take-le}
 use borrow.Author.Tests.{eq-eqb, ne-eqb}
 use Rattle.codec.specs.Bytes.{Order, big, little, bytesOf, valueOf, part, field, overwrite, same}
-use Rattle.codec.proofs.Numbers.{length-bytes, little-add}
+use Rattle.codec.proofs.Numbers.{pow-pos, length-bytes, little-add}
 use Rattle.codec.proofs.Parts.{part-none, part-cons, part-snoc, length-part, set-sets, overwrite-append}
 use Rattle.codec.proofs.Fields.{field-add, field-add-little, field-one}
 use Rattle.codec.proofs.Equal.{same-snoc}
@@ -39,17 +39,20 @@ module _ (at k w x b : ℕ) (more : 0 < k) (within : k ≤ w) where
   step : w - (k - 1) ≡ suc (w - k)
   step = omega arith
 
-  pub front-next : (l : List ℕ) → at + w ≤ length l → x ≡ field little (w - k) (at + k) l → b ≡ getD l (at + (k - 1)) 0 → x * 256 + b ≡ field little (w - (k - 1)) (at + (k - 1)) l
+  pub front-next : (l : List ℕ) → at + w ≤ length l → x ≡ field little (w - k) (at + k) l → b ≡ getD l (at + (k - 1)) 0 → b + 256 * x ≡ field little (w - (k - 1)) (at + (k - 1)) l
   unfolding field valueOf
   front-next l h p q =
       let a : at + (k - 1) + 1 ≡ at + k = omega arith in
-      rw (p, q, step, part-cons (w - k) (at + (k - 1)) l (omega arith), a) (omega arith)
+      rw (p, q, step, part-cons (w - k) (at + (k - 1)) l (omega arith), a)
 
-  pub front-below : x < 256 ^ (w - k) → b < 256 → x * 256 + b < 256 ^ (w - (k - 1))
+  pub front-below : x < 256 ^ (w - k) → b < 256 → b + 256 * x < 256 ^ (w - (k - 1))
   front-below h l = rw (step, pow-suc 256 (w - k)) (omega arith)
 
-pub front-first : (at w : ℕ) (l : List ℕ) → (0 ≡ field little (w - w) (at + w) l) × (0 < 256 ^ (w - w))
-front-first at w l = let e : w - w ≡ 0 = omega arith in rw e (field-zero little (at + w) l, omega arith)
+pub front-first : (at w : ℕ) (l : List ℕ) → 0 ≡ field little (w - w) (at + w) l
+front-first at w l = let e : w - w ≡ 0 = omega arith in rw e (field-zero little (at + w) l)
+
+pub front-small : (w : ℕ) → 0 < 256 ^ (w - w)
+front-small w = pow-pos (w - w)
 
 pub front-last : (at k w x : ℕ) (l : List ℕ) → k ≡ 0 → x ≡ field little (w - k) (at + k) l → x < 256 ^ (w - k) → (x ≡ field little w at l) × (x < 256 ^ w)
 front-last at k w x l e h b =

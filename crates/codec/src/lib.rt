@@ -3,7 +3,7 @@
 ghost use mathlib.Core.Path.{_≡_};
 ghost use Prim.Native.Nat.{_+_, _≤_, _<_, _^_};
 ghost use lib.ListN.{length};
-ghost use Rattle.codec.specs.Bytes.{Order, big, little, bytesOf, field, part, overwrite, same};
+ghost use Rattle.codec.specs.Bytes.{big, little, bytesOf, field, part, overwrite, same};
 
 // A byte as a wide number: 0 to 255, never negative.
 pub fn wide(x: u8) -> u64
@@ -64,7 +64,7 @@ pub fn get_le(s: &[u8], at: usize, w: usize) -> u64
     let mut k = w;
     while 0 < k {
         k -= 1;
-        x = x * 256 + wide(s[at + k]);
+        x = wide(s[at + k]) + 256 * x;
     }
     x
 }
@@ -138,10 +138,10 @@ pub fn put_le(s: &mut [u8], at: usize, w: usize, v: u64)
     ensures { λ _. ⌜ now (s .exit) ≡ overwrite (now (s .entry)) at (bytesOf little w v) ⌝ }
 {
     let mut k: usize = 0;
-    let mut y = v;
+    let mut rest = v;
     while k < w {
-        s[at + k] = (y % 256) as u8;
-        y = y / 256;
+        s[at + k] = (rest % 256) as u8;
+        rest = rest / 256;
         k += 1;
     }
 }

@@ -1,0 +1,32 @@
+-- `java_hash::hash_rest` meets its contract: before each turn h is the hash continued over the first i bytes. Assumes nothing.
+use Prim.Native.Nat.{_≤_, _-_}
+use mathlib.Core.Path.{_≡_, refl}
+use native.Mathlib.Omega.{arith}
+use lib.ListN.{length, take}
+use Rattle.java_hash.specs.Hash.{units, hashFrom}
+use Rattle.java_hash.proofs.HashLaws.{turn0, turn1, turned}
+use borrow.Author.Needs.{needs}
+use Rattle.java_hash.proofs.hash_rest.Statement.{statement}
+use Rattle.java_hash.proofs.hash_rest.Tie as tie
+
+abbrev Inv-loop : tie.InvT-loop
+Inv-loop start s h₀ i₀ h i = (i ≤ length s) × (h ≡ hashFrom start (units (take i s)))
+
+abbrev μ-loop : tie.MeasureT-loop
+μ-loop start s h₀ i₀ h i = length s - i
+
+loop-holds : tie.Need-loop-holds Inv-loop μ-loop
+loop-holds c = (omega arith, turn0 _ (c .before .args .s .now))
+
+cast-step : tie.Need-cast-step Inv-loop μ-loop
+cast-step c = omega (arith, c .shared-slice-known2 .given (c .before .before .loop .i))
+
+loop-again : tie.Need-loop-again Inv-loop μ-loop
+loop-again c = (omega arith, turn1 _ (c .before .before .before .before .before .args .s .now) _ _ _ _ (omega arith) (c .before .before .before .loop .inv .1) refl (c .step .ensures))
+
+returns : tie.Need-returns Inv-loop μ-loop
+returns c = turned _ (c .before .before .before .args .s .now) (c .before .loop .i) _ (omega arith) (c .before .loop .inv .1)
+
+pub hash-rest-spec : {M : Type 1} → statement M
+hash-rest-spec =
+    tie.close (tie.spec Inv-loop μ-loop loop-holds (search needs) cast-step (search needs) (search needs) (search needs) loop-again returns)

@@ -1,0 +1,67 @@
+-- The hash of Java's strings, the tag code, the index hash and the slot: document 01, section "Properties and hashes". Assumes nothing.
+use Prim.Native.Nat.{ℕ, _+_, _*_, _-_, _%_}
+use mathlib.Core.List.{List, [], _∷_, _++_}
+use lib.Dec.{ltb, eqb}
+use lib.ListN.{getD}
+use Rattle.codec.specs.Choice.{pick}
+
+-- "for each byte, taken as 0 to 255": what a string of bytes is hashed by
+unfoldable pub units : List ℕ → List ℕ
+units bytes = bytes
+
+-- "h becomes 31 times h plus the next byte, modulo 4,294,967,296": h continued over the units
+unfoldable pub hashFrom : ℕ → List ℕ → ℕ
+hashFrom h [] = h
+hashFrom h (u ∷ us) = hashFrom ((31 * h + u) % 4294967296) us
+
+-- "start at 0"
+unfoldable pub hashOf : List ℕ → ℕ
+hashOf bytes = hashFrom 0 (units bytes)
+
+-- "read as signed 32-bit at the end"
+pub data Signed : Type 0 where
+  plus : ℕ → Signed
+  minus : ℕ → Signed
+
+unfoldable pub signed : ℕ → Signed
+signed h = pick (ltb h 2147483648) (plus h) (minus (4294967296 - h))
+
+-- "Tag code: that signed number carried into 64 bits"
+unfoldable pub carried : Signed → ℕ
+carried (plus n) = n
+carried (minus n) = 18446744073709551616 - n
+
+unfoldable pub tagCode : List ℕ → ℕ
+tagCode tags = carried (signed (hashOf tags))
+
+-- "its absolute value, and 0 for −2,147,483,648"
+unfoldable pub absolute : Signed → ℕ
+absolute (plus n) = n
+absolute (minus n) = pick (eqb n 2147483648) 0 n
+
+-- "Index hash: of topic, `#`, key"
+unfoldable pub indexHash : List ℕ → List ℕ → ℕ
+indexHash topic key = absolute (signed (hashFrom 0 (units topic ++ 35 ∷ units key)))
+
+-- "Slot: index hash mod K"
+unfoldable pub slotOf : ℕ → ℕ → ℕ
+slotOf k hash = hash % k
+
+-- ---- the index hash in two steps: topic and `#` once, then each key
+
+unfoldable pub topicHash : List ℕ → ℕ
+topicHash topic = hashFrom 0 (units topic ++ 35 ∷ [])
+
+unfoldable pub keyHash : ℕ → List ℕ → ℕ
+keyHash prefix key = absolute (signed (hashFrom prefix (units key)))
+
+-- ---- eight bytes in one turn: what two, four and eight bytes at i add
+
+abbrev pub pairAt : List ℕ → ℕ → ℕ
+pairAt bytes i = 31 * getD bytes i 0 + getD bytes (i + 1) 0
+
+abbrev pub quadAt : List ℕ → ℕ → ℕ
+quadAt bytes i = 961 * pairAt bytes i + pairAt bytes (i + 2)
+
+abbrev pub octetAt : List ℕ → ℕ → ℕ
+octetAt bytes i = 923521 * quadAt bytes i + quadAt bytes (i + 4)

@@ -1,0 +1,5 @@
+pub mod Dividing
+pub mod Pieces
+pub mod Finding
+pub mod Keys
+pub mod Places

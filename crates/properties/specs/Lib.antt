@@ -1,0 +1,5 @@
+pub mod Parts
+pub mod Finder
+pub mod Keys
+pub mod Inner
+pub mod Claims
