@@ -1,10 +1,19 @@
--- Every row of the acceptance bench, by computation. Assumes nothing.
+-- Every row of the acceptance bench, and every worked example, by computation. Assumes nothing.
 use mathlib.Core.Path.{refl}
 use Rattle.codec.specs.Choice.{pick}
-use Rattle.codec.specs.Bytes.{bytesOf}
+use Rattle.codec.specs.Bytes.{bytesOf, valueOf, part, field, same}
 use Rattle.java_hash.specs.Hash.{units, hashFrom, hashOf, signed, carried, tagCode, absolute, indexHash}
+use Rattle.properties.specs.Parts.{onto, parts, filled, bytesAt, place}
+use Rattle.properties.specs.Finder.{pairValue, values, also, foundIn, finder, valueOf as foundValue}
+use Rattle.properties.specs.Keys.{filledPlaces, keysFrom, keyPlaces}
+use Rattle.directory.specs.Directory.{rowLength, rowKind, rowId, rowQueue, kindOk, rowOk, before, rowsWithin, names, rowFrom, listed, distinct, judged, queues, counted, listing, rowOf}
 use Rattle.acceptance.specs.Bench.{bench, BenchHolds}
+use Rattle.acceptance.specs.Examples.{property-examples, hash-examples, directory-examples, rows, examples, ExamplesHold}
 
 pub bench-holds : BenchHolds
 unfolding bench pick bytesOf units hashFrom hashOf signed carried tagCode absolute indexHash
 bench-holds = refl
+
+pub examples-hold : ExamplesHold
+unfolding examples property-examples hash-examples directory-examples rows pick bytesOf valueOf part field same units hashFrom signed absolute indexHash onto parts filled bytesAt place pairValue values also foundIn finder foundValue filledPlaces keysFrom keyPlaces rowLength rowKind rowId rowQueue kindOk rowOk before rowsWithin names rowFrom listed distinct judged queues counted listing rowOf
+examples-hold = refl
