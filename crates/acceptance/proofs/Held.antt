@@ -7,11 +7,13 @@ use Rattle.properties.specs.Parts.{onto, parts, filled, bytesAt, place}
 use Rattle.properties.specs.Finder.{pairValue, values, also, foundIn, finder, valueOf as foundValue}
 use Rattle.properties.specs.Keys.{filledPlaces, keysFrom, keyPlaces}
 use Rattle.directory.specs.Directory.{rowLength, rowKind, rowId, rowQueue, kindOk, rowOk, before, rowsWithin, names, rowFrom, listed, distinct, judged, queues, counted, listing, rowOf}
+use Rattle.record.specs.Record.{fieldsSound, hostBitsClear, textRules}
+use Rattle.commit_log.specs.Log.{geometryOk, segmentRest, misplaced, requestOk, placed, appended}
 use Rattle.acceptance.specs.Bench.{bench, BenchHolds}
 use Rattle.acceptance.specs.Examples.{property-examples, hash-examples, directory-examples, rows, examples, ExamplesHold}
 
 pub bench-holds : BenchHolds
-unfolding bench pick bytesOf units hashFrom hashOf signed carried tagCode absolute indexHash
+unfolding bench pick bytesOf units hashFrom hashOf signed carried tagCode absolute indexHash appended geometryOk misplaced requestOk placed segmentRest fieldsSound hostBitsClear textRules
 bench-holds = refl
 
 pub examples-hold : ExamplesHold

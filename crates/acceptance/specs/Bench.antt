@@ -2,8 +2,12 @@
 use Prim.Native.Nat.{ℕ}
 use mathlib.Core.Path.{_≡_}
 use mathlib.Core.List.{List, [], _∷_, map}
+use lib.ListN.{replicate}
 use Rattle.codec.specs.Bytes.{big, bytesOf}
+use Rattle.units.specs.Answers.{numberOf}
 use Rattle.java_hash.specs.Hash.{Signed, plus, minus, signed, hashOf, tagCode, indexHash, absolute}
+use Rattle.record.specs.declared.Fields.{Fields}
+use Rattle.commit_log.specs.Log.{appended}
 
 -- what a definition gives, and what the bench says it must be: numbers or bytes
 pub record Row : Type 0 where
@@ -21,6 +25,30 @@ hashed bytes = shown (signed (hashOf bytes))
 -- `polygenelubricants`
 abbrev pub polygenelubricants : List ℕ
 polygenelubricants = 112 ∷ 111 ∷ 108 ∷ 121 ∷ 103 ∷ 101 ∷ 110 ∷ 101 ∷ 108 ∷ 117 ∷ 98 ∷ 114 ∷ 105 ∷ 99 ∷ 97 ∷ 110 ∷ 116 ∷ 115 ∷ []
+
+-- ---- appending at 924 of the first of two segments of 1,024 bytes, so that r is 100
+
+abbrev pub fields : Fields
+fields =
+    record {
+      «body_crc» = 0;
+      «queue_id» = 0;
+      flag = 0;
+      «queue_offset» = record { 0 = 0 };
+      «system_flag» = 0;
+      «born_time» = 0;
+      «born_host» = 0;
+      «store_time» = 10000;
+      «store_host» = 0;
+      «reconsume_times» = 0;
+      «prepared_offset» = 0;
+    }
+
+-- the answer's number and the write position, of topic T and these properties: 92 bytes and one for each of theirs
+abbrev pub appendedAt924 : List ℕ → List ℕ
+appendedAt924 properties =
+    let made = appended (replicate 2048 0) (record { «segment_size» = 1024; «first_position» = 0 }) (record { 0 = 924 }) fields [] (84 ∷ []) properties .made in
+    numberOf (made .answer) ∷ made .«write_position» .0 ∷ []
 
 unfoldable pub bench : List Row
 bench =
@@ -42,6 +70,9 @@ bench =
     ∷ record { given = bytesOf big 8 (tagCode polygenelubricants); wanted = 255 ∷ 255 ∷ 255 ∷ 255 ∷ 128 ∷ 0 ∷ 0 ∷ 0 ∷ [] }
     -- "the index's absolute value of that number is 0"
     ∷ record { given = absolute (signed (hashOf polygenelubricants)) ∷ []; wanted = 0 ∷ [] }
+    -- "r = 100: total 92 fits; 93 rolls"
+    ∷ record { given = appendedAt924 []; wanted = 0 ∷ 1016 ∷ [] }
+    ∷ record { given = appendedAt924 (65 ∷ []); wanted = 7 ∷ 1024 ∷ [] }
     ∷ []
 
 -- every row holds
