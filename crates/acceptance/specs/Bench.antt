@@ -3,11 +3,13 @@ use Prim.Native.Nat.{ℕ}
 use mathlib.Core.Path.{_≡_}
 use mathlib.Core.List.{List, [], _∷_, map}
 use lib.ListN.{replicate}
-use Rattle.codec.specs.Bytes.{big, bytesOf}
+use Rattle.codec.specs.Bytes.{big, bytesOf, part}
 use Rattle.units.specs.Answers.{numberOf}
 use Rattle.java_hash.specs.Hash.{Signed, plus, minus, signed, hashOf, tagCode, indexHash, absolute}
 use Rattle.record.specs.declared.Fields.{Fields}
 use Rattle.commit_log.specs.Log.{appended}
+use Rattle.index_file.specs.Index.{filledSlots, usedCount, slotValue, secondsOf}
+use Rattle.index_file.specs.Items.{itemHashes, itemsAnswer, putAll}
 
 -- what a definition gives, and what the bench says it must be: numbers or bytes
 pub record Row : Type 0 where
@@ -50,6 +52,26 @@ appendedAt924 properties =
     let made = appended (replicate 2048 0) (record { «segment_size» = 1024; «first_position» = 0 }) (record { 0 = 924 }) fields [] (84 ∷ []) properties .made in
     numberOf (made .answer) ∷ made .«write_position» .0 ∷ []
 
+-- ---- an index of 2 slots and 4 items
+
+abbrev pub fresh : List ℕ
+fresh = replicate 128 0
+
+-- the index after the items of a record at this position, topic T, time 10,000
+abbrev pub indexed : ℕ → List ℕ → List ℕ → List ℕ
+indexed position properties index = putAll 2 position 10000 (itemHashes (84 ∷ []) properties) index
+
+-- rule 7's answer for such a record
+abbrev pub checked : ℕ → List ℕ → List ℕ → List ℕ
+checked position properties index = numberOf (itemsAnswer 2 4 index position (itemHashes (84 ∷ []) properties)) ∷ []
+
+-- `UNIQ_KEY 01 k`; `KEYS 01`, then these bytes
+abbrev pub uniqueKeyK : List ℕ
+uniqueKeyK = 85 ∷ 78 ∷ 73 ∷ 81 ∷ 95 ∷ 75 ∷ 69 ∷ 89 ∷ 1 ∷ 107 ∷ []
+
+abbrev pub keys : List ℕ → List ℕ
+keys bytes = 75 ∷ 69 ∷ 89 ∷ 83 ∷ 1 ∷ bytes
+
 unfoldable pub bench : List Row
 bench =
     -- "bytes of `Aa` and `BB` both hash to 2112"
@@ -73,6 +95,18 @@ bench =
     -- "r = 100: total 92 fits; 93 rolls"
     ∷ record { given = appendedAt924 []; wanted = 0 ∷ 1016 ∷ [] }
     ∷ record { given = appendedAt924 (65 ∷ []); wanted = 7 ∷ 1024 ∷ [] }
+    -- "first time 10,000: store time 10,999 gives 0 seconds, 11,000 gives 1, 9,000 gives 0"
+    ∷ record { given = secondsOf 10000 10999 ∷ secondsOf 10000 11000 ∷ secondsOf 10000 9000 ∷ []; wanted = 0 ∷ 1 ∷ 0 ∷ [] }
+    -- "item 1 at byte 68 is 00 01 3F FC and 16 zeros"
+    ∷ record { given = part 20 68 (indexed 0 uniqueKeyK fresh); wanted = 0 ∷ 1 ∷ 63 ∷ 252 ∷ replicate 16 0 }
+    -- "slot 0 is 1; filled slots 1, used count 2"
+    ∷ record {
+      given = slotValue (indexed 0 uniqueKeyK fresh) 0 ∷ filledSlots (indexed 0 uniqueKeyK fresh) ∷ usedCount (indexed 0 uniqueKeyK fresh) ∷ [];
+      wanted = 1 ∷ 1 ∷ 2 ∷ [];
+    }
+    -- "N = 4 takes three items; the fourth is 14": KEYS `a b c`, and then KEYS `d` of a record at 92
+    ∷ record { given = checked 0 (keys (97 ∷ 32 ∷ 98 ∷ 32 ∷ 99 ∷ [])) fresh; wanted = 0 ∷ [] }
+    ∷ record { given = checked 92 (keys (100 ∷ [])) (indexed 0 (keys (97 ∷ 32 ∷ 98 ∷ 32 ∷ 99 ∷ [])) fresh); wanted = 14 ∷ [] }
     ∷ []
 
 -- every row holds

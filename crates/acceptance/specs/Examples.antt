@@ -14,7 +14,7 @@ use Rattle.directory.specs.declared.Listing.the-variants.{Refused, Rows}
 use Rattle.directory.specs.declared.Located.{Located}
 use Rattle.directory.specs.declared.Located.the-variants.{Unlisted, Row as RowNumber}
 use Rattle.directory.specs.Directory.{listing, rowOf}
-use Rattle.acceptance.specs.Bench.{Row}
+use Rattle.acceptance.specs.Bench.{Row, keys}
 
 -- what is found: absent 0, one 1, more than one 2, then the place and the length
 abbrev pub shownFound : Found → List ℕ
@@ -27,10 +27,6 @@ keysFound properties = shownFound (finder keysName properties)
 
 abbrev pub keysIn : List ℕ → List ℕ
 keysIn properties = length (keyPlaces (valueOf (finder keysName properties) properties)) ∷ []
-
--- `KEYS` 01, then these bytes
-abbrev pub keys : List ℕ → List ℕ
-keys bytes = 75 ∷ 69 ∷ 89 ∷ 83 ∷ 1 ∷ bytes
 
 unfoldable pub property-examples : List Row
 property-examples =

@@ -1,0 +1,178 @@
+-- Sizes, header, item and query, judged by the tests of their functions. Assumes nothing.
+use Prim.Native.Nat.{ℕ, _+_, _*_, _-_, _≤_, _<_}
+use mathlib.Core.Path.{_≡_, sym, _∙_}
+use mathlib.Core.Bool.{Bool, true, false, not, _&&_, _||_}
+use mathlib.Core.List.{List}
+use native.Mathlib.Omega.{arith}
+use lib.Dec.{leb, ltb, eqb}
+use lib.ListN.{length}
+use borrow.Author.Tests.{leb-true, eqb-true, le-leb, not-true, not-false}
+use Rattle.codec.specs.Choice.{pick}
+use Rattle.codec.proofs.Choices.{both}
+use Rattle.java_hash.specs.Hash.{indexHash}
+use Rattle.units.specs.declared.Answer.{Answer}
+use Rattle.units.specs.declared.Answer.the-variants.{BadSizes, BadIndexHeader, BadQuery}
+use Rattle.index_file.specs.declared.Item.{Item}
+use Rattle.index_file.specs.declared.Criteria.{Criteria}
+use Rattle.index_file.specs.declared.Queried.{Queried}
+use Rattle.index_file.specs.Index.{usedCount, filledSlots, firstTime, lastTime, firstPosition, lastPosition, timeOk, positionOk, untouched, sizesOk, headerSound, itemAt}
+use Rattle.index_file.specs.Walk.{criteriaOf, itemTime, hit, damaged, ends, search}
+use Rattle.index_file.specs.Query.{wantedOf, textOk, queryOk, queryWalk, Report, reported, queried}
+use Rattle.index_file.specs.Claims.{DoorSized}
+
+-- ---- sizes
+
+pub record SizesIn (k n : ℕ) : Type 0 where
+  pub some : 1 ≤ k
+  pub most : k ≤ 5000000
+  pub two : 2 ≤ n
+  pub few : n ≤ 20000000
+
+module _ (k n : ℕ) where
+  abbrev limits : Bool
+  limits = leb 1 k && leb k 5000000 && leb 2 n && leb n 20000000
+
+  limits-in : limits ≡ true → SizesIn k n
+  limits-in e =
+      let a = both (leb 1 k && leb k 5000000 && leb 2 n) (leb n 20000000) e in
+      let b = both (leb 1 k && leb k 5000000) (leb 2 n) (a .0) in
+      let c = both (leb 1 k) (leb k 5000000) (b .0) in
+      record { some = leb-true 1 k (c .0); most = leb-true k 5000000 (c .1); two = leb-true 2 n (b .1); few = leb-true n 20000000 (a .1) }
+
+  pub sizes-in : not limits ≡ false → SizesIn k n
+  sizes-in h = limits-in (not-false limits h)
+
+  pub sizes-out : (len : ℕ) → not limits ≡ true → false ≡ sizesOk k n len
+  unfolding sizesOk
+  sizes-out len h = rw (not-true limits h)
+
+  pub sizes-judged : (len : ℕ) → not limits ≡ false → eqb len (40 + 4 * k + 20 * n) ≡ sizesOk k n len
+  unfolding sizesOk
+  sizes-judged len h = rw (not-false limits h)
+
+  pub sizes-facts : (len : ℕ) → sizesOk k n len ≡ true → SizesIn k n × (len ≡ 40 + 4 * k + 20 * n)
+  unfolding sizesOk
+  sizes-facts len e = let a = both limits (eqb len (40 + 4 * k + 20 * n)) e in (limits-in (a .0), eqb-true len (40 + 4 * k + 20 * n) (a .1))
+
+pub sizes-long : {s : Bool} (k n len : ℕ) → s ≡ sizesOk k n len → not s ≡ false → 40 ≤ len
+sizes-long {s} k n len e h = let f = sizes-facts k n len (sym e ∙ not-false s h) in let x = f .1 in omega arith
+
+-- ---- the header
+
+pub record Sound (n : ℕ) (l : List ℕ) : Type 0 where
+  pub used : usedCount l ≤ n
+  pub filled : filledSlots l ≤ usedCount l - 1
+  pub first-time : firstTime l ≤ 281474976710655
+  pub last-time : lastTime l ≤ 281474976710655
+  pub first-position : firstPosition l ≤ 1099511627776
+  pub last-position : lastPosition l ≤ 1099511627776
+  pub fresh : (ltb 1 (usedCount l) || untouched l) ≡ true
+
+module _ (n : ℕ) (l : List ℕ) where
+  abbrev counts : Bool
+  counts = leb (usedCount l) n && leb (filledSlots l) (usedCount l - 1)
+
+  abbrev times : Bool
+  times = timeOk (firstTime l) && timeOk (lastTime l)
+
+  abbrev positions : Bool
+  positions = positionOk (firstPosition l) && positionOk (lastPosition l)
+
+  pub header-facts : headerSound n l ≡ true → Sound n l
+  unfolding headerSound
+  header-facts e =
+      let a = both (counts && times && positions) (ltb 1 (usedCount l) || untouched l) e in
+      let b = both (counts && times) positions (a .0) in
+      let c = both counts times (b .0) in
+      let d = both (leb (usedCount l) n) (leb (filledSlots l) (usedCount l - 1)) (c .0) in
+      let t = both (timeOk (firstTime l)) (timeOk (lastTime l)) (c .1) in
+      let p = both (positionOk (firstPosition l)) (positionOk (lastPosition l)) (b .1) in
+      record {
+        used = leb-true _ _ (d .0);
+        filled = leb-true _ _ (d .1);
+        first-time = leb-true _ _ (t .0);
+        last-time = leb-true _ _ (t .1);
+        first-position = leb-true _ _ (p .0);
+        last-position = leb-true _ _ (p .1);
+        fresh = a .1;
+      }
+
+  pub header-sound : Sound n l → headerSound n l ≡ true
+  unfolding headerSound
+  header-sound s =
+      rw (
+        le-leb _ _ (s .used),
+        le-leb _ _ (s .filled),
+        le-leb _ _ (s .first-time),
+        le-leb _ _ (s .last-time),
+        le-leb _ _ (s .first-position),
+        le-leb _ _ (s .last-position),
+        s .fresh,
+      )
+
+  pub header-judged : {used filled first-time last-time first-position last-position : ℕ}
+      → used ≡ usedCount l → filled ≡ filledSlots l → first-time ≡ firstTime l → last-time ≡ lastTime l → first-position ≡ firstPosition l → last-position ≡ lastPosition l
+      → ((leb used n && leb filled (used - 1)) && (timeOk first-time && timeOk last-time) && (positionOk first-position && positionOk last-position)
+      && (ltb 1 used || (eqb first-time 0 && eqb last-time 0 && eqb first-position 0 && eqb last-position 0)))
+      ≡ headerSound n l
+  unfolding headerSound untouched
+  header-judged eu ef ea eb ec ed = rw (eu, ef, ea, eb, ec, ed)
+
+pub door-sized : DoorSized
+door-sized k n l s h =
+    let z = sizes-facts k n (length l) s in
+    let w = header-facts n l h in
+    record { some = z .0 .some; most = z .0 .most; few = z .0 .few; long = z .1; count = (let a = w .used in omega arith); fill = (let a = w .filled in omega arith) }
+
+-- ---- an item
+
+module _ (q : Criteria) (e : Item) where
+  pub is-damaged : (b : Bool) → (leb 2147483648 (e .seconds) || not (positionOk (e .position))) ≡ b → damaged e ≡ b
+  unfolding damaged
+  is-damaged b h = h
+
+  pub is-hit : (b : Bool) → (eqb (e .hash) (q .hash) && (leb (q .begin) (itemTime q e) && leb (itemTime q e) (q .end))) ≡ b → hit q e ≡ b
+  unfolding hit
+  is-hit b h = h
+
+-- ---- a query
+
+module _ (k n : ℕ) (l topic key : List ℕ) (first last wanted : ℕ) (out : List ℕ) where
+  abbrev Whole : Report → Type 0
+  Whole r = r ≡ queried k n l topic key first last wanted out
+
+  -- a refusal
+  refused : (a : Answer) (r : Queried) → r ≡ record { answer = a; found = 0; read = 0 } → queryWalk k n l topic key first last wanted (length out) ≡ ends a → Whole (record { made = r; out = out })
+  unfolding queried reported
+  refused a r e h = rw (h, e)
+
+  module _ {s : Bool} (es : s ≡ sizesOk k n (length l)) where
+    pub refused-sizes : {r : Queried} → not s ≡ true → r ≡ record { answer = BadSizes; found = 0; read = 0 } → Whole (record { made = r; out = out })
+    unfolding queryWalk pick
+    refused-sizes {r} a e = refused BadSizes r e (rw (← es, a))
+
+    module _ (a : not s ≡ false) {h : Bool} (eh : h ≡ headerSound n l) where
+      pub refused-header : {r : Queried} → not h ≡ true → r ≡ record { answer = BadIndexHeader; found = 0; read = 0 } → Whole (record { made = r; out = out })
+      unfolding queryWalk pick
+      refused-header {r} b e = refused BadIndexHeader r e (rw (← es, a, ← eh, b))
+
+      module _ (b : not h ≡ false) {most : ℕ} (em : most ≡ wantedOf wanted) {q : Bool} (eq : q ≡ queryOk (length topic) (length key) first last most (length out)) where
+        pub refused-query : {r : Queried} → not q ≡ true → r ≡ record { answer = BadQuery; found = 0; read = 0 } → Whole (record { made = r; out = out })
+        unfolding queryWalk pick
+        refused-query {r} c e = refused BadQuery r e (rw (← es, a, ← eh, b, ← em, ← eq, c))
+
+        pub asked : {hash : ℕ} {w : Criteria} {r : Report} → not q ≡ false → hash ≡ indexHash topic key → w ≡ criteriaOf l hash first last → r ≡ reported (search k l w most) out → Whole r
+        unfolding queried queryWalk pick
+        asked c ek ew er = er ∙ rw (← es, a, ← eh, b, ← em, ← eq, c, ew, ek)
+
+-- what the walk may count on
+pub accepted : (k n : ℕ) (l : List ℕ) (topic key first last most places hash : ℕ) {s h q : Bool} {w : Criteria}
+    → s ≡ sizesOk k n (length l) → not s ≡ false → h ≡ headerSound n l → not h ≡ false → q ≡ queryOk topic key first last most places → not q ≡ false
+    → w ≡ criteriaOf l hash first last
+    → (0 < k) × (k ≤ 5000000) × (itemAt k (usedCount l) ≤ length l) × (w .base ≤ 281474976710655) × (most ≤ places)
+unfolding queryOk criteriaOf
+accepted k n l topic key first last most places hash {s} {h} {q} {w} es a eh b eq c ew =
+    let f = sizes-facts k n (length l) (sym es ∙ not-false s a) in
+    let g = header-facts n l (sym eh ∙ not-false h b) in
+    let p = both ((textOk 127 topic && textOk 32767 key) && (leb first last && timeOk last)) (leb most places) (sym eq ∙ not-false q c) in
+    (f .0 .some, f .0 .most, (let x = f .1 in let y = g .used in omega arith), rw ew (g .first-time), leb-true most places (p .1))

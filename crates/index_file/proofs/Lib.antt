@@ -1,0 +1,9 @@
+pub mod Stores
+pub mod Puts
+pub mod Judged
+pub mod Walks
+pub mod Turns
+pub mod Items
+pub mod Chain
+pub mod History
+pub mod Exact

@@ -1,0 +1,293 @@
+-- What one put changes, field by field. Assumes nothing.
+use Prim.Native.Nat.{ℕ, suc, _+_, _*_, _-_, _≤_, _<_}
+use mathlib.Core.Path.{_≡_, ap, _∙_}
+use mathlib.Core.Bool.{Bool, true, false}
+use mathlib.Core.List.{List, [], _∷_}
+use native.Mathlib.Nat.{add-zero, mod-eq-of-lt}
+use native.Mathlib.Omega.{arith}
+use native.Mathlib.Decide.{decLt}
+use lib.Dec.{eqb}
+use lib.ListN.{length}
+use borrow.Author.Tests.{eq-eqb, ne-eqb}
+use Rattle.codec.specs.Bytes.{big, field, overwrite}
+use Rattle.codec.specs.Choice.{pick}
+use Rattle.codec.specs.Layout.{number, pieceBytes, layout}
+use Rattle.codec.proofs.Parts.{length-overwrite}
+use Rattle.codec.proofs.Fields.{peel, field-inside, field-before}
+use Rattle.codec.proofs.Layouts.{length-layout}
+use Rattle.java_hash.specs.Hash.{slotOf}
+use Rattle.java_hash.proofs.HashLaws.{slot-within}
+use Rattle.index_file.specs.declared.Item.{Item}
+use Rattle.index_file.specs.Index.{store, firstTime, lastTime, firstPosition, lastPosition, filledSlots, usedCount, slotAt, slotValue, itemAt, itemBytes, itemOf, secondsOf, headerAfter, itemFor, filledAfter, put}
+use Rattle.index_file.specs.Inner.{Room}
+use Rattle.index_file.proofs.Stores.{length-store, stored, kept-before, kept-after}
+
+-- ---- the steps of `put_item`
+
+pub put-steps : (k hash position time : ℕ) (l : List ℕ) {u first filled slot previous seconds more at : ℕ} {a b r : List ℕ}
+    → u ≡ usedCount l → first ≡ firstTime l → filled ≡ filledSlots l → slot ≡ slotAt (slotOf k hash) → previous ≡ field big 4 slot l
+    → seconds ≡ secondsOf first time → at ≡ itemAt k u
+    → a ≡ overwrite l at (itemBytes (record { hash = hash; position = position; seconds = seconds; previous = previous }))
+    → b ≡ store 4 slot u a → more ≡ filledAfter filled previous → r ≡ headerAfter u more position time b → r ≡ put k hash position time l
+unfolding put itemFor
+put-steps k hash position time l hu hf hm hs hp ht ha hw hb hn hr = cc
+
+module _ (filled previous : ℕ) where
+  pub filled-more : previous ≡ 0 → filled + 1 ≡ filledAfter filled previous
+  unfolding filledAfter pick
+  filled-more e = rw (eq-eqb previous 0 e)
+
+  pub filled-still : (previous ≡ 0 → ⊥) → filled ≡ filledAfter filled previous
+  unfolding filledAfter pick
+  filled-still e = rw (ne-eqb previous 0 e, add-zero)
+
+-- ---- the header
+
+-- the steps of `write_header`
+module _ (u filled position time : ℕ) (l : List ℕ) {a b c d : List ℕ} (ea : a ≡ store 4 32 filled l) (eb : b ≡ store 4 36 (u + 1) a)
+    (ec : c ≡ store 8 8 time b) (ed : d ≡ store 8 24 position c) where
+  pub header-first : {e f : List ℕ} → u ≡ 1 → e ≡ store 8 0 time d → f ≡ store 8 16 position e → f ≡ headerAfter u filled position time l
+  unfolding headerAfter pick
+  header-first h ee ef = rw (eq-eqb u 1 h, ef, ee, ed, ec, eb, ea)
+
+  pub header-later : (u ≡ 1 → ⊥) → d ≡ headerAfter u filled position time l
+  unfolding headerAfter pick
+  header-later h = rw (ne-eqb u 1 h, ed, ec, eb, ea)
+
+module _ (u filled position time : ℕ) (l : List ℕ) where
+  last : List ℕ
+  last = store 8 24 position (store 8 8 time (store 4 36 (u + 1) (store 4 32 filled l)))
+
+  whole : Bool → List ℕ
+  whole b = pick b (store 8 16 position (store 8 0 time last)) last
+
+  length-header : length (headerAfter u filled position time l) ≡ length l
+  unfolding headerAfter whole last pick
+  length-header = go (eqb u 1)
+    where
+      go : (b : Bool) → length (whole b) ≡ length l
+      go true = simp length-overwrite
+      go false = simp length-overwrite
+
+  -- its fields are within the first 40 bytes
+  header-after : (w at : ℕ) → 40 ≤ at → field big w at (headerAfter u filled position time l) ≡ field big w at l
+  unfolding headerAfter whole last pick
+  header-after w at h = go (eqb u 1)
+    where
+      low : field big w at last ≡ field big w at l
+      low =
+          kept-after 8 24 _ _ w at (omega arith) ∙ kept-after 8 8 _ _ w at (omega arith)
+          ∙ kept-after 4 36 _ _ w at (omega arith) ∙ kept-after 4 32 _ _ w at (omega arith)
+
+      go : (b : Bool) → field big w at (whole b) ≡ field big w at l
+      go true = kept-after 8 16 _ _ w at (omega arith) ∙ kept-after 8 0 _ _ w at (omega arith) ∙ low
+      go false = low
+
+  module _ (long : 40 ≤ length l) where
+    header-used : u < 2147483648 → field big 4 36 (headerAfter u filled position time l) ≡ u + 1
+    unfolding headerAfter whole last pick
+    header-used small = go (eqb u 1)
+      where
+        low : field big 4 36 last ≡ u + 1
+        low = kept-after 8 24 _ _ 4 36 (omega arith) ∙ kept-after 8 8 _ _ 4 36 (omega arith) ∙ stored 4 36 (u + 1) _ (simp length-overwrite long) (omega arith)
+
+        go : (b : Bool) → field big 4 36 (whole b) ≡ u + 1
+        go true = kept-after 8 16 _ _ 4 36 (omega arith) ∙ kept-after 8 0 _ _ 4 36 (omega arith) ∙ low
+        go false = low
+
+    header-filled : filled < 4294967296 → field big 4 32 (headerAfter u filled position time l) ≡ filled
+    unfolding headerAfter whole last pick
+    header-filled small = go (eqb u 1)
+      where
+        low : field big 4 32 last ≡ filled
+        low =
+            kept-after 8 24 _ _ 4 32 (omega arith) ∙ kept-after 8 8 _ _ 4 32 (omega arith)
+            ∙ kept-before 4 36 _ _ 4 32 (omega arith) ∙ stored 4 32 filled l (omega arith) small
+
+        go : (b : Bool) → field big 4 32 (whole b) ≡ filled
+        go true = kept-after 8 16 _ _ 4 32 (omega arith) ∙ kept-after 8 0 _ _ 4 32 (omega arith) ∙ low
+        go false = low
+
+    header-first-time : time ≤ 281474976710655 → field big 8 0 (headerAfter u filled position time l) ≡ pick (eqb u 1) time (field big 8 0 l)
+    unfolding headerAfter whole last pick
+    header-first-time small = go (eqb u 1)
+      where
+        go : (b : Bool) → field big 8 0 (whole b) ≡ pick b time (field big 8 0 l)
+        go true = kept-before 8 16 _ _ 8 0 (omega arith) ∙ stored 8 0 time _ (simp length-overwrite (omega arith)) (omega arith)
+        go false =
+            kept-before 8 24 _ _ 8 0 (omega arith) ∙ kept-before 8 8 _ _ 8 0 (omega arith)
+            ∙ kept-before 4 36 _ _ 8 0 (omega arith) ∙ kept-before 4 32 _ _ 8 0 (omega arith)
+
+    header-last-time : time ≤ 281474976710655 → field big 8 8 (headerAfter u filled position time l) ≡ time
+    unfolding headerAfter whole last pick
+    header-last-time small = go (eqb u 1)
+      where
+        low : field big 8 8 last ≡ time
+        low = kept-before 8 24 _ _ 8 8 (omega arith) ∙ stored 8 8 time _ (simp length-overwrite (omega arith)) (omega arith)
+
+        go : (b : Bool) → field big 8 8 (whole b) ≡ time
+        go true = kept-before 8 16 _ _ 8 8 (omega arith) ∙ kept-after 8 0 _ _ 8 8 (omega arith) ∙ low
+        go false = low
+
+    header-first-position : position ≤ 1099511627776 → field big 8 16 (headerAfter u filled position time l) ≡ pick (eqb u 1) position (field big 8 16 l)
+    unfolding headerAfter whole last pick
+    header-first-position small = go (eqb u 1)
+      where
+        go : (b : Bool) → field big 8 16 (whole b) ≡ pick b position (field big 8 16 l)
+        go true = stored 8 16 position _ (simp length-overwrite (omega arith)) (omega arith)
+        go false =
+            kept-before 8 24 _ _ 8 16 (omega arith) ∙ kept-after 8 8 _ _ 8 16 (omega arith)
+            ∙ kept-before 4 36 _ _ 8 16 (omega arith) ∙ kept-before 4 32 _ _ 8 16 (omega arith)
+
+    header-last-position : position ≤ 1099511627776 → field big 8 24 (headerAfter u filled position time l) ≡ position
+    unfolding headerAfter whole last pick
+    header-last-position small = go (eqb u 1)
+      where
+        low : field big 8 24 last ≡ position
+        low = stored 8 24 position _ (simp length-overwrite (omega arith)) (omega arith)
+
+        go : (b : Bool) → field big 8 24 (whole b) ≡ position
+        go true = kept-after 8 16 _ _ 8 24 (omega arith) ∙ kept-after 8 0 _ _ 8 24 (omega arith) ∙ low
+        go false = low
+
+-- ---- an item
+
+length-item : (e : Item) → length (itemBytes e) ≡ 20
+unfolding itemBytes
+length-item e = length-layout (number 4 (e .hash) ∷ number 8 (e .position) ∷ number 4 (e .seconds) ∷ number 4 (e .previous) ∷ [])
+
+-- its numbers fit their fields
+pub record Narrow (e : Item) : Type 0 where
+  pub hash : e .hash < 4294967296
+  pub position : e .position < 18446744073709551616
+  pub seconds : e .seconds < 4294967296
+  pub previous : e .previous < 4294967296
+
+item-fields : (e : Item) → Narrow e
+    → (field big 4 0 (itemBytes e) ≡ e .hash) × (field big 8 4 (itemBytes e) ≡ e .position)
+    × (field big 4 12 (itemBytes e) ≡ e .seconds) × (field big 4 16 (itemBytes e) ≡ e .previous)
+unfolding itemBytes layout pieceBytes
+item-fields e s =
+    (simp (peel, mod-eq-of-lt (s .hash)), simp (peel, mod-eq-of-lt (s .position)), simp (peel, mod-eq-of-lt (s .seconds)), simp (peel, mod-eq-of-lt (s .previous)))
+
+-- ---- a put
+
+module _ (k n hash position time : ℕ) (l : List ℕ) (r : Room k n l 1) where
+  item : Item
+  item = itemFor k hash position time l
+
+  body : List ℕ
+  body = overwrite l (itemAt k (usedCount l)) (itemBytes item)
+
+  slotted : List ℕ
+  slotted = store 4 (slotAt (slotOf k hash)) (usedCount l) body
+
+  abbrev after : List ℕ
+  after = put k hash position time l
+
+  within : slotOf k hash < k
+  within = slot-within k hash (r .some)
+
+  fits : itemAt k (usedCount l) + 20 ≤ length l
+  fits = let a = r .long in let b = r .count in omega arith
+
+  length-slotted : length slotted ≡ length l
+  unfolding slotted body
+  length-slotted = length-store _ _ _ _ ∙ length-overwrite _ _ _
+
+  long : 40 ≤ length slotted
+  long = rw length-slotted (let a = fits in omega arith)
+
+  pub length-put : length after ≡ length l
+  unfolding put slotted body item
+  length-put = length-header _ _ _ _ _ ∙ length-slotted
+
+  -- a field before the slots, and one behind them
+  of-header : (w at : ℕ) → at + w ≤ 40 → field big w at slotted ≡ field big w at l
+  unfolding slotted body
+  of-header w at h =
+      kept-before 4 (slotAt (slotOf k hash)) _ _ w at (omega arith) ∙ field-before big w at l (itemAt k (usedCount l)) (itemBytes item) (omega arith)
+
+  of-body : (w at : ℕ) → 40 + 4 * k ≤ at → field big w at after ≡ field big w at body
+  unfolding put slotted body item
+  of-body w at h =
+      header-after _ _ _ _ _ w at (omega arith) ∙ kept-after 4 (slotAt (slotOf k hash)) _ _ w at (let a = within in omega arith)
+
+  pub used-put : usedCount after ≡ suc (usedCount l)
+  unfolding put slotted body item
+  used-put = rw (header-used (usedCount l) _ position time slotted long (let a = r .count in let b = r .few in omega arith)) (omega arith)
+
+  pub filled-put : filledSlots after ≡ filledAfter (filledSlots l) (slotValue l (slotOf k hash))
+  unfolding put slotted body item filledAfter pick
+  filled-put = header-filled (usedCount l) _ position time slotted long (go (eqb (slotValue l (slotOf k hash)) 0))
+    where
+      go : (b : Bool) → filledSlots l + pick b 1 0 < 4294967296
+      go true = let a = r .fill in let b = r .count in let c = r .few in omega arith
+      go false = let a = r .fill in let b = r .count in let c = r .few in omega arith
+
+  module _ (small : time ≤ 281474976710655) where
+    pub first-time-put : firstTime after ≡ pick (eqb (usedCount l) 1) time (firstTime l)
+    unfolding put slotted body item
+    first-time-put = header-first-time (usedCount l) _ position time slotted long small ∙ ap (pick (eqb (usedCount l) 1) time) (of-header 8 0 (omega arith))
+
+    pub last-time-put : lastTime after ≡ time
+    unfolding put slotted body item
+    last-time-put = header-last-time (usedCount l) _ position time slotted long small
+
+  module _ (small : position ≤ 1099511627776) where
+    pub first-position-put : firstPosition after ≡ pick (eqb (usedCount l) 1) position (firstPosition l)
+    unfolding put slotted body item
+    first-position-put = header-first-position (usedCount l) _ position time slotted long small ∙ ap (pick (eqb (usedCount l) 1) position) (of-header 8 16 (omega arith))
+
+    pub last-position-put : lastPosition after ≡ position
+    unfolding put slotted body item
+    last-position-put = header-last-position (usedCount l) _ position time slotted long small
+
+  pub slot-same : slotValue after (slotOf k hash) ≡ usedCount l
+  unfolding put body item
+  slot-same =
+      header-after _ _ _ _ _ 4 (slotAt (slotOf k hash)) (omega arith)
+      ∙ stored 4 (slotAt (slotOf k hash)) (usedCount l) _ (rw length-overwrite (let a = within in let b = fits in omega arith)) (let a = r .count in let b = r .few in omega arith)
+
+  pub slot-other : (t : ℕ) → t < k → (t ≡ slotOf k hash → ⊥) → slotValue after t ≡ slotValue l t
+  unfolding put body item
+  slot-other t h ne =
+      header-after _ _ _ _ _ 4 (slotAt t) (omega arith) ∙ go (decLt t (slotOf k hash))
+      ∙ field-before big 4 (slotAt t) l (itemAt k (usedCount l)) (itemBytes item) (omega arith)
+    where
+      go : Dec (t < slotOf k hash) → field big 4 (slotAt t) (store 4 (slotAt (slotOf k hash)) (usedCount l) body) ≡ field big 4 (slotAt t) body
+      go (yes y) = kept-before 4 (slotAt (slotOf k hash)) _ _ 4 (slotAt t) (omega arith)
+      go (no z) = kept-after 4 (slotAt (slotOf k hash)) _ _ 4 (slotAt t) (omega arith)
+
+  -- a number of an older item
+  older : (w at : ℕ) → 40 + 4 * k ≤ at → at + w ≤ itemAt k (usedCount l) → field big w at after ≡ field big w at l
+  unfolding body
+  older w at h g = of-body w at h ∙ field-before big w at l (itemAt k (usedCount l)) (itemBytes item) g
+
+  pub item-other : (v : ℕ) → v < usedCount l → itemOf k after v ≡ itemOf k l v
+  unfolding itemOf
+  item-other v h =
+      rw (
+        older 4 (itemAt k v) (omega arith) (omega arith),
+        older 8 (itemAt k v + 4) (omega arith) (omega arith),
+        older 4 (itemAt k v + 12) (omega arith) (omega arith),
+        older 4 (itemAt k v + 16) (omega arith) (omega arith),
+      )
+
+  -- a number of the new one
+  newer : (w i : ℕ) → i + w ≤ 20 → field big w (itemAt k (usedCount l) + i) after ≡ field big w i (itemBytes item)
+  unfolding body
+  newer w i h =
+      of-body w (itemAt k (usedCount l) + i) (omega arith)
+      ∙ field-inside big w i l (itemAt k (usedCount l)) (itemBytes item) (rw length-item h) (rw length-item fits)
+
+  pub item-same : Narrow (itemFor k hash position time l) → itemOf k after (usedCount l) ≡ itemFor k hash position time l
+  unfolding itemOf item
+  item-same s =
+      let f = item-fields item s in
+      rw (
+        (rw add-zero at (newer 4 0 (omega arith))) ∙ f .0,
+        newer 8 4 (omega arith) ∙ f .1,
+        newer 4 12 (omega arith) ∙ f .2,
+        newer 4 16 (omega arith) ∙ f .3,
+      )

@@ -1,0 +1,592 @@
+// The index file: an item put, a record's items checked and put, a query by key and time.
+ghost use mathlib.Core.Path.{_≡_};
+ghost use Prim.Native.Nat.{_+_, _*_, _<_, _≤_};
+ghost use lib.ListN.{length};
+ghost use Rattle.codec.specs.Bytes.{overwrite};
+ghost use Rattle.java_hash.specs.Hash.{keyHash, slotOf};
+ghost use Rattle.units.specs.declared.Place.{Place};
+ghost use Rattle.properties.specs.Parts.{bytesAt};
+ghost use Rattle.properties.specs.Finder.{scanned, Inside};
+ghost use Rattle.properties.specs.Keys.{keyPlaces};
+ghost use Rattle.index_file.specs.Index.{usedCount, sizesOk, headerSound, itemAt, itemBytes, itemOf, secondsOf, headerAfter, filledAfter, put};
+ghost use Rattle.index_file.specs.Walk.{criteriaOf, search};
+ghost use Rattle.index_file.specs.Query.{wantedOf, queryOk, reported, queried};
+ghost use Rattle.index_file.specs.Items.{isFound, uniqueKey, keysAt, itemKeys, hashes, isAhead, badSlot, anyBadSlot, itemsAnswer, putAll};
+ghost use Rattle.index_file.specs.Inner.{verdictOf, Room, Sized, SlotPlace};
+use properties::Found;
+use properties::Key;
+use properties::Scanned;
+use units::Answer;
+use units::LogPosition;
+use units::Place;
+
+// The number of slots and of items that an index has room for: K and N.
+pub struct IndexSizes {
+    pub slot_count: u64,
+    pub item_count: u64,
+}
+
+// An item as stored: each number as its bytes read without a sign.
+struct Item {
+    hash: u32,
+    position: u64,
+    seconds: u32,
+    previous: u32,
+}
+
+// What a query looks for, and the header's first time, on which item times rest.
+struct Criteria {
+    hash: u32,
+    begin: u64,
+    end: u64,
+    base: u64,
+}
+
+// What reading an item comes to.
+enum Verdict {
+    Damaged,
+    Match,
+    Early,
+    Pass,
+}
+
+// How a query ends: the positions written and the items read.
+pub struct Queried {
+    pub answer: Answer,
+    pub found: u64,
+    pub read: u64,
+}
+
+const FIRST_TIME: usize = 0;
+
+const LAST_TIME: usize = 8;
+
+const FIRST_POSITION: usize = 16;
+
+const LAST_POSITION: usize = 24;
+
+const FILLED_SLOTS: usize = 32;
+
+const USED_COUNT: usize = 36;
+
+const SLOTS: usize = 40;
+
+const TIME_MAX: u64 = 281474976710655;
+
+const POSITION_MAX: u64 = 1099511627776;
+
+// Whether K, N and the index's length are within their limits.
+pub fn sizes_ok(sizes: IndexSizes, len: usize) -> bool
+    ensures { λ r. ⌜ r ≡ sizesOk (sizes .«slot_count») (sizes .«item_count») len ⌝ }
+{
+    let k = sizes.slot_count;
+    let n = sizes.item_count;
+    if !((1 <= k) & (k <= 5000000) & (2 <= n) & (n <= 20000000)) {
+        return false;
+    }
+    len as u64 == 40 + 4 * k + 20 * n
+}
+
+// The used count; 0 reads as 1.
+fn used_count(index: &[u8]) -> u32
+    requires { ⌜ 40 ≤ length (now index) ⌝ }
+    ensures { λ r. ⌜ r ≡ usedCount (now (index .entry)) ⌝ }
+{
+    let u = codec::get_u32(index, USED_COUNT);
+    if u == 0 { 1 } else { u }
+}
+
+// Whether the header is sound.
+pub fn header_sound(index: &[u8], item_count: u64) -> bool
+    requires { ⌜ 40 ≤ length (now index) ⌝ }
+    ensures { λ r. ⌜ r ≡ headerSound «item_count» (now (index .entry)) ⌝ }
+{
+    let used = used_count(index);
+    let filled = codec::get_u32(index, FILLED_SLOTS);
+    let first_time = codec::get_u64(index, FIRST_TIME);
+    let last_time = codec::get_u64(index, LAST_TIME);
+    let first_position = codec::get_u64(index, FIRST_POSITION);
+    let last_position = codec::get_u64(index, LAST_POSITION);
+    let counts = (used as u64 <= item_count) & (filled <= used - 1);
+    let times = (first_time <= TIME_MAX) & (last_time <= TIME_MAX);
+    let positions = (first_position <= POSITION_MAX) & (last_position <= POSITION_MAX);
+    let untouched = (first_time == 0)
+        & (last_time == 0)
+        & (first_position == 0)
+        & (last_position == 0);
+    counts & times & positions & ((1 < used) | untouched)
+}
+
+// The place of a hash's slot.
+fn slot_place(hash: u32, slot_count: u64) -> usize
+    requires { ⌜ (0 < «slot_count») × («slot_count» ≤ 5000000) ⌝ }
+    ensures { λ r. ⌜ SlotPlace «slot_count» (slotOf «slot_count» hash) r ⌝ }
+{
+    SLOTS + 4 * (java_hash::slot(hash, slot_count) as usize)
+}
+
+// The place of item u.
+fn item_place(slot_count: u64, u: u32) -> usize
+    requires { ⌜ «slot_count» ≤ 5000000 ⌝ }
+    ensures { λ r. ⌜ r ≡ itemAt «slot_count» u ⌝ }
+{
+    SLOTS + 4 * (slot_count as usize) + 20 * (u as usize)
+}
+
+// Whole seconds from the first time to a store time, kept within 31 bits; 0 if the first time is 0.
+fn seconds_of(first_time: u64, store_time: u64) -> u32
+    ensures { λ r. ⌜ r ≡ secondsOf «first_time» «store_time» ⌝ }
+{
+    if first_time == 0 {
+        return 0;
+    }
+    if store_time < first_time {
+        return 0;
+    }
+    let seconds = (store_time - first_time) / 1000;
+    if seconds < 2147483647 {
+        seconds as u32
+    } else {
+        2147483647
+    }
+}
+
+fn write_item(index: &mut [u8], at: usize, item: Item)
+    requires { ⌜ at + 20 ≤ length (now index) ⌝ }
+    ensures { λ _. ⌜ now (index .exit) ≡ overwrite (now (index .entry)) at (itemBytes item) ⌝ }
+{
+    codec::put_u32(index, at, item.hash);
+    codec::put_u64(index, at + 4, item.position);
+    codec::put_u32(index, at + 12, item.seconds);
+    codec::put_u32(index, at + 16, item.previous);
+}
+
+fn read_item(index: &[u8], slot_count: u64, u: u32) -> Item
+    requires { ⌜ («slot_count» ≤ 5000000) × (itemAt «slot_count» u + 20 ≤ length (now index)) ⌝ }
+    ensures { λ r. ⌜ r ≡ itemOf «slot_count» (now (index .entry)) u ⌝ }
+{
+    let at = item_place(slot_count, u);
+    let hash = codec::get_u32(index, at);
+    let position = codec::get_u64(index, at + 4);
+    let seconds = codec::get_u32(index, at + 12);
+    let previous = codec::get_u32(index, at + 16);
+    Item {
+        hash,
+        position,
+        seconds,
+        previous,
+    }
+}
+
+// The filled slots, after an item in a slot that held `previous`.
+fn filled_after(filled: u32, previous: u32) -> u32
+    requires { ⌜ filled < 2147483648 ⌝ }
+    ensures { λ r. ⌜ r ≡ filledAfter filled previous ⌝ }
+{
+    if previous == 0 { filled + 1 } else { filled }
+}
+
+// The header, brought up to date after item u.
+fn write_header(index: &mut [u8], u: u32, filled: u32, position: u64, store_time: u64)
+    requires { ⌜ (40 ≤ length (now index)) × (u < 2147483648) ⌝ }
+    ensures { λ _. ⌜ now (index .exit) ≡ headerAfter u filled position «store_time» (now (index .entry)) ⌝ }
+{
+    codec::put_u32(index, FILLED_SLOTS, filled);
+    codec::put_u32(index, USED_COUNT, u + 1);
+    codec::put_u64(index, LAST_TIME, store_time);
+    codec::put_u64(index, LAST_POSITION, position);
+    if u == 1 {
+        codec::put_u64(index, FIRST_TIME, store_time);
+        codec::put_u64(index, FIRST_POSITION, position);
+    }
+}
+
+// One item, put at the used count.
+fn put_item(index: &mut [u8], sizes: IndexSizes, hash: u32, position: LogPosition, store_time: u64)
+    requires { ⌜ Room (sizes .«slot_count») (sizes .«item_count») (now index) 1 ⌝ }
+    ensures { λ _. ⌜ now (index .exit) ≡ put (sizes .«slot_count») hash (position .0) «store_time» (now (index .entry)) ⌝ }
+{
+    let k = sizes.slot_count;
+    let u = used_count(index);
+    let first_time = codec::get_u64(index, FIRST_TIME);
+    let filled = codec::get_u32(index, FILLED_SLOTS);
+    let slot = slot_place(hash, k);
+    let previous = codec::get_u32(index, slot);
+    let position = position.0;
+    let seconds = seconds_of(first_time, store_time);
+    let item = Item {
+        hash,
+        position,
+        seconds,
+        previous,
+    };
+    write_item(index, item_place(k, u), item);
+    codec::put_u32(index, slot, u);
+    write_header(
+        index,
+        u,
+        filled_after(filled, previous),
+        position,
+        store_time,
+    );
+}
+
+// What an item that was read comes to.
+fn judge(criteria: Criteria, item: Item) -> Verdict
+    requires { ⌜ criteria .base ≤ 281474976710655 ⌝ }
+    ensures { λ r. ⌜ r ≡ verdictOf criteria item ⌝ }
+{
+    if (2147483648 <= item.seconds) | !(item.position <= POSITION_MAX) {
+        return Verdict::Damaged;
+    }
+    let time = criteria.base + 1000 * (item.seconds as u64);
+    if (item.hash == criteria.hash) & ((criteria.begin <= time) & (time <= criteria.end)) {
+        return Verdict::Match;
+    }
+    if time < criteria.begin {
+        Verdict::Early
+    } else {
+        Verdict::Pass
+    }
+}
+
+fn ended(answer: Answer, found: usize, read: u64) -> Queried
+    ensures { λ r. ⌜ r ≡ record { answer = answer; found = found; read = read } ⌝ }
+{
+    Queried {
+        answer,
+        found: found as u64,
+        read,
+    }
+}
+
+// The criteria of a query over an index.
+fn criteria_for(index: &[u8], hash: u32, begin: u64, end: u64) -> Criteria
+    requires { ⌜ 40 ≤ length (now index) ⌝ }
+    ensures { λ r. ⌜ r ≡ criteriaOf (now (index .entry)) hash begin end ⌝ }
+{
+    let base = codec::get_u64(index, FIRST_TIME);
+    Criteria {
+        hash,
+        begin,
+        end,
+        base,
+    }
+}
+
+// The walk from the slot of a hash, newest item first; the positions of matches go to the output's front.
+fn walk_chain(index: &[u8], k: u64, criteria: Criteria, wanted: usize, out: &mut [u64]) -> Queried
+    requires { ⌜ (0 < k) × (k ≤ 5000000) × (itemAt k (usedCount (now index)) ≤ length (now index)) × (criteria .base ≤ 281474976710655) × (wanted ≤ length (now out)) ⌝ }
+    ensures { λ r. ⌜ record { made = r; out = now (out .exit) } ≡ reported (search k (now (index .entry)) criteria wanted) (now (out .entry)) ⌝ }
+{
+    let mut before = used_count(index);
+    let mut number = codec::get_u32(index, slot_place(criteria.hash, k));
+    let mut found: usize = 0;
+    let mut read: u64 = 0;
+    loop {
+        if found == wanted {
+            break ended(Answer::Done, found, read);
+        }
+        if number == 0 {
+            break ended(Answer::Done, found, read);
+        }
+        if before <= number {
+            break ended(Answer::ChainBroken, found, read);
+        }
+        let item = read_item(index, k, number);
+        read += 1;
+        let verdict = judge(criteria, item);
+        match verdict {
+            Verdict::Damaged => break ended(Answer::ChainBroken, found, read),
+            Verdict::Match => {
+                out[found] = item.position;
+                found += 1;
+            }
+            Verdict::Early => break ended(Answer::Done, found, read),
+            Verdict::Pass => {}
+        }
+        before = number;
+        number = item.previous;
+    }
+}
+
+// The number wanted: 0 means 32.
+fn wanted_of(wanted: u64) -> u64
+    ensures { λ r. ⌜ r ≡ wantedOf wanted ⌝ }
+{
+    if wanted == 0 { 32 } else { wanted }
+}
+
+// Whether topic and key have a byte and are not too long, the times are in limits and ordered, and the output has the places.
+fn query_ok(
+    topic: usize,
+    key: usize,
+    first_time: u64,
+    last_time: u64,
+    wanted: u64,
+    places: usize,
+) -> bool
+    ensures { λ r. ⌜ r ≡ queryOk topic key «first_time» «last_time» wanted places ⌝ }
+{
+    let texts = ((1 <= topic) & (topic <= 127)) & ((1 <= key) & (key <= 32767));
+    let times = (first_time <= last_time) & (last_time <= TIME_MAX);
+    texts & times & (wanted <= places as u64)
+}
+
+// The newest items with the key's hash and a recorded time in the range: their positions go to the output's front.
+pub fn query(
+    index: &[u8],
+    sizes: IndexSizes,
+    topic: &[u8],
+    key: &[u8],
+    first_time: u64,
+    last_time: u64,
+    wanted: u64,
+    out: &mut [u64],
+) -> Queried
+    ensures { λ r. ⌜ record { made = r; out = now (out .exit) } ≡ queried (sizes .«slot_count») (sizes .«item_count») (now (index .entry)) (now (topic .entry)) (now (key .entry)) «first_time» «last_time» wanted (now (out .entry)) ⌝ }
+{
+    if !sizes_ok(sizes, index.len()) {
+        return ended(Answer::BadSizes, 0, 0);
+    }
+    if !header_sound(index, sizes.item_count) {
+        return ended(Answer::BadIndexHeader, 0, 0);
+    }
+    let most = wanted_of(wanted);
+    if !query_ok(
+        topic.len(),
+        key.len(),
+        first_time,
+        last_time,
+        most,
+        out.len(),
+    ) {
+        return ended(Answer::BadQuery, 0, 0);
+    }
+    let hash = java_hash::index_hash(topic, key);
+    let criteria = criteria_for(index, hash, first_time, last_time);
+    walk_chain(index, sizes.slot_count, criteria, most as usize, out)
+}
+
+// Whether there is a value.
+fn is_found(found: Found) -> bool
+    ensures { λ r. ⌜ r ≡ isFound found ⌝ }
+{
+    match found {
+        Found::Absent => false,
+        Found::One(_) => true,
+        Found::Many(_) => true,
+    }
+}
+
+// The index hash of the key at a place of KEYS' value.
+fn hash_at(prefix: u32, keys: &[u8], key: Place) -> u32
+    requires { ⌜ key .at + key .len ≤ length (now keys) ⌝ }
+    ensures { λ r. ⌜ r ≡ keyHash prefix (bytesAt key (now (keys .entry))) ⌝ }
+{
+    let at = key.at;
+    let end = at + key.len;
+    java_hash::key_hash(prefix, &keys[at..end])
+}
+
+// Whether the slot of a hash holds a value that is not below the used count.
+fn slot_bad(index: &[u8], slot_count: u64, hash: u32) -> bool
+    requires { ⌜ (0 < «slot_count») × («slot_count» ≤ 5000000) × (40 + 4 * «slot_count» ≤ length (now index)) ⌝ }
+    ensures { λ r. ⌜ r ≡ badSlot «slot_count» (now (index .entry)) hash ⌝ }
+{
+    used_count(index) <= codec::get_u32(index, slot_place(hash, slot_count))
+}
+
+// Whether the unique key's slot is bad.
+fn unique_slot_bad(
+    index: &[u8],
+    slot_count: u64,
+    prefix: u32,
+    properties: &[u8],
+    found: Found,
+) -> bool
+    requires { ⌜ (0 < «slot_count») × («slot_count» ≤ 5000000) × (40 + 4 * «slot_count» ≤ length (now index)) × Inside (length (now properties)) found ⌝ }
+    ensures { λ r. ⌜ r ≡ anyBadSlot «slot_count» (now (index .entry)) (hashes prefix (uniqueKey found (now (properties .entry)))) ⌝ }
+{
+    if !is_found(found) {
+        return false;
+    }
+    let key = properties::value(properties, found);
+    slot_bad(index, slot_count, java_hash::key_hash(prefix, key))
+}
+
+// Whether a slot of KEYS' parts is bad.
+fn key_slots_bad(index: &[u8], slot_count: u64, prefix: u32, keys: &[u8]) -> bool
+    requires { ⌜ (0 < «slot_count») × («slot_count» ≤ 5000000) × (40 + 4 * «slot_count» ≤ length (now index)) ⌝ }
+    ensures { λ r. ⌜ r ≡ anyBadSlot «slot_count» (now (index .entry)) (hashes prefix (keysAt (keyPlaces (now (keys .entry))) (now (keys .entry)))) ⌝ }
+{
+    let mut at: usize = 0;
+    loop {
+        let next = properties::next_key(keys, at);
+        match next {
+            Key::Done => break false,
+            Key::Next(key) => {
+                let hash = hash_at(prefix, keys, key);
+                if slot_bad(index, slot_count, hash) {
+                    break true;
+                }
+                at = key.at + key.len;
+            }
+        }
+    }
+}
+
+// The number of a record's items.
+fn count_items(properties: &[u8], found: Scanned) -> u64
+    requires { ⌜ found ≡ scanned (now properties) ⌝ }
+    ensures { λ r. ⌜ (r ≡ length (itemKeys (now (properties .entry)))) × (2 * r ≤ length (now (properties .entry)) + 3) ⌝ }
+{
+    let keys = found.keys;
+    let count = properties::key_count(properties::value(properties, keys)) as u64;
+    let unique_key = found.unique_key;
+    if is_found(unique_key) {
+        count + 1
+    } else {
+        count
+    }
+}
+
+// Whether a slot that a record's items need is bad.
+fn slots_bad(index: &[u8], slot_count: u64, prefix: u32, properties: &[u8], found: Scanned) -> bool
+    requires { ⌜ (0 < «slot_count») × («slot_count» ≤ 5000000) × (40 + 4 * «slot_count» ≤ length (now index)) × (found ≡ scanned (now properties)) ⌝ }
+    ensures { λ r. ⌜ r ≡ anyBadSlot «slot_count» (now (index .entry)) (hashes prefix (itemKeys (now (properties .entry)))) ⌝ }
+{
+    let unique_key = found.unique_key;
+    if unique_slot_bad(index, slot_count, prefix, properties, unique_key) {
+        return true;
+    }
+    let keys = found.keys;
+    key_slots_bad(
+        index,
+        slot_count,
+        prefix,
+        properties::value(properties, keys),
+    )
+}
+
+// Whether the index has an item and the position is not above its last one.
+fn is_ahead(index: &[u8], position: LogPosition) -> bool
+    requires { ⌜ 40 ≤ length (now index) ⌝ }
+    ensures { λ r. ⌜ r ≡ isAhead (now (index .entry)) (position .0) ⌝ }
+{
+    (1 < used_count(index)) & (position.0 <= codec::get_u64(index, LAST_POSITION))
+}
+
+// Rule 7's answer for a record's items, judged on the index before the record. Nothing is written.
+pub fn check_items(
+    index: &[u8],
+    sizes: IndexSizes,
+    position: LogPosition,
+    prefix: u32,
+    properties: &[u8],
+    found: Scanned,
+) -> Answer
+    requires { ⌜ Sized (sizes .«slot_count») (sizes .«item_count») (now index) × (found ≡ scanned (now properties)) ⌝ }
+    ensures { λ r. ⌜ r ≡ itemsAnswer (sizes .«slot_count») (sizes .«item_count») (now (index .entry)) (position .0) (hashes prefix (itemKeys (now (properties .entry)))) ⌝ }
+{
+    let items = count_items(properties, found);
+    if items == 0 {
+        return Answer::Done;
+    }
+    if is_ahead(index, position) {
+        return Answer::IndexAhead;
+    }
+    if sizes.item_count < used_count(index) as u64 + items {
+        return Answer::IndexFull;
+    }
+    if slots_bad(index, sizes.slot_count, prefix, properties, found) {
+        return Answer::ChainBroken;
+    }
+    Answer::Done
+}
+
+// An item for the unique key, if there is one.
+fn put_unique(
+    index: &mut [u8],
+    sizes: IndexSizes,
+    position: LogPosition,
+    store_time: u64,
+    prefix: u32,
+    properties: &[u8],
+    found: Found,
+)
+    requires { ⌜ Room (sizes .«slot_count») (sizes .«item_count») (now index) (length (uniqueKey found (now properties))) × Inside (length (now properties)) found ⌝ }
+    ensures { λ _. ⌜ now (index .exit) ≡ putAll (sizes .«slot_count») (position .0) «store_time» (hashes prefix (uniqueKey found (now (properties .entry)))) (now (index .entry)) ⌝ }
+{
+    if !is_found(found) {
+        return;
+    }
+    let key = properties::value(properties, found);
+    put_item(
+        index,
+        sizes,
+        java_hash::key_hash(prefix, key),
+        position,
+        store_time,
+    );
+}
+
+// An item for each part of KEYS.
+fn put_keys(
+    index: &mut [u8],
+    sizes: IndexSizes,
+    position: LogPosition,
+    store_time: u64,
+    prefix: u32,
+    keys: &[u8],
+)
+    requires { ⌜ Room (sizes .«slot_count») (sizes .«item_count») (now index) (length (keyPlaces (now keys))) ⌝ }
+    ensures { λ _. ⌜ now (index .exit) ≡ putAll (sizes .«slot_count») (position .0) «store_time» (hashes prefix (keysAt (keyPlaces (now (keys .entry))) (now (keys .entry)))) (now (index .entry)) ⌝ }
+{
+    let mut at: usize = 0;
+    loop {
+        let next = properties::next_key(keys, at);
+        match next {
+            Key::Done => break,
+            Key::Next(key) => {
+                let hash = hash_at(prefix, keys, key);
+                put_item(index, sizes, hash, position, store_time);
+                at = key.at + key.len;
+            }
+        }
+    }
+}
+
+// A record's items: first the unique key, then the parts of KEYS.
+pub fn put_items(
+    index: &mut [u8],
+    sizes: IndexSizes,
+    position: LogPosition,
+    store_time: u64,
+    prefix: u32,
+    properties: &[u8],
+    found: Scanned,
+)
+    requires { ⌜ Room (sizes .«slot_count») (sizes .«item_count») (now index) (length (itemKeys (now properties))) × (found ≡ scanned (now properties)) ⌝ }
+    ensures { λ _. ⌜ now (index .exit) ≡ putAll (sizes .«slot_count») (position .0) «store_time» (hashes prefix (itemKeys (now (properties .entry)))) (now (index .entry)) ⌝ }
+{
+    let unique_key = found.unique_key;
+    put_unique(
+        index,
+        sizes,
+        position,
+        store_time,
+        prefix,
+        properties,
+        unique_key,
+    );
+    let keys = found.keys;
+    put_keys(
+        index,
+        sizes,
+        position,
+        store_time,
+        prefix,
+        properties::value(properties, keys),
+    );
+}
