@@ -2,14 +2,18 @@
 use Prim.Native.Nat.{ℕ}
 use mathlib.Core.Path.{_≡_}
 use mathlib.Core.List.{List, [], _∷_, map}
-use lib.ListN.{replicate}
+use lib.ListN.{length, getD, replicate}
 use Rattle.codec.specs.Bytes.{big, bytesOf, part}
+use Rattle.units.specs.declared.Answer.the-variants.{Done}
 use Rattle.units.specs.Answers.{numberOf}
 use Rattle.java_hash.specs.Hash.{Signed, plus, minus, signed, hashOf, tagCode, indexHash, absolute}
 use Rattle.record.specs.declared.Fields.{Fields}
-use Rattle.commit_log.specs.Log.{appended}
+use Rattle.commit_log.specs.declared.Geometry.{Geometry}
+use Rattle.commit_log.specs.Log.{Outcome, outcome, appended}
 use Rattle.index_file.specs.Index.{filledSlots, usedCount, slotValue, secondsOf}
-use Rattle.index_file.specs.Items.{itemHashes, itemsAnswer, putAll}
+use Rattle.index_file.specs.Items.{itemKeys, itemHashes, itemsAnswer, putAll}
+use Rattle.machine.specs.Calls.{call}
+use Rattle.dispatch.specs.Dispatch.{dispatcher}
 
 -- what a definition gives, and what the bench says it must be: numbers or bytes
 pub record Row : Type 0 where
@@ -72,6 +76,55 @@ uniqueKeyK = 85 ∷ 78 ∷ 73 ∷ 81 ∷ 95 ∷ 75 ∷ 69 ∷ 89 ∷ 1 ∷ 107 �
 abbrev pub keys : List ℕ → List ℕ
 keys bytes = 75 ∷ 69 ∷ 89 ∷ 83 ∷ 1 ∷ bytes
 
+-- ---- dispatch: a segment of 1,024 bytes, queue 0 of topic T with two entries, and that index
+
+abbrev pub geometry : Geometry
+geometry = record { «segment_size» = 1024; «first_position» = 0 }
+
+-- the log and its readable end after a record of topic T, this queue offset and these properties
+abbrev pub sent : ℕ → List ℕ → Outcome → Outcome
+sent offset properties o =
+    appended (o .log) geometry (o .made .«write_position»)
+    (record {
+      «body_crc» = 0;
+      «queue_id» = 0;
+      flag = 0;
+      «queue_offset» = record { 0 = offset };
+      «system_flag» = 0;
+      «born_time» = 0;
+      «born_host» = 0;
+      «store_time» = 10000;
+      «store_host» = 0;
+      «reconsume_times» = 0;
+      «prepared_offset» = 0;
+    }) [] (84 ∷ []) properties
+
+abbrev pub empty : Outcome
+empty = outcome Done (record { 0 = 0 }) (replicate 1024 0)
+
+-- KEYS `a b c`, and then KEYS `d`; KEYS `a  a`
+abbrev pub threeAndOne : Outcome
+threeAndOne = sent 1 (keys (100 ∷ [])) (sent 0 (keys (97 ∷ 32 ∷ 98 ∷ 32 ∷ 99 ∷ [])) empty)
+
+abbrev pub twice : Outcome
+twice = sent 0 (keys (97 ∷ 32 ∷ 32 ∷ 97 ∷ [])) empty
+
+-- the answer's number, the steps, the position, the first queue's count and the used count after a call with this budget
+abbrev pub dispatched : ℕ → Outcome → List ℕ
+dispatched budget o =
+    let ran =
+    call dispatcher
+    (record {
+      fixed = record {
+        sizes = record { geometry = geometry; entries = 2; index = record { «slot_count» = 2; «item_count» = 4 } };
+        directory = 9 ∷ 0 ∷ 1 ∷ 0 ∷ 0 ∷ 0 ∷ 0 ∷ 0 ∷ 84 ∷ [];
+      };
+      view = record { log = o .log; end = o .made .«write_position» };
+      budget = budget;
+    })
+    (record { position = record { 0 = 0 }; counts = replicate 16 0; queues = replicate 40 0; index = fresh }) in
+    numberOf (ran .answer) ∷ ran .steps ∷ ran .state .position .0 ∷ getD (ran .state .counts) 0 0 ∷ usedCount (ran .state .index) ∷ []
+
 unfoldable pub bench : List Row
 bench =
     -- "bytes of `Aa` and `BB` both hash to 2112"
@@ -107,6 +160,13 @@ bench =
     -- "N = 4 takes three items; the fourth is 14": KEYS `a b c`, and then KEYS `d` of a record at 92
     ∷ record { given = checked 0 (keys (97 ∷ 32 ∷ 98 ∷ 32 ∷ 99 ∷ [])) fresh; wanted = 0 ∷ [] }
     ∷ record { given = checked 92 (keys (100 ∷ [])) (indexed 0 (keys (97 ∷ 32 ∷ 98 ∷ 32 ∷ 99 ∷ [])) fresh); wanted = 14 ∷ [] }
+    -- the same by dispatch: the first record is filed, the second is stopped
+    ∷ record { given = dispatched 18446744073709551615 threeAndOne; wanted = 14 ∷ 1 ∷ 102 ∷ 1 ∷ 4 ∷ [] }
+    -- "KEYS `a  a` makes two items"
+    ∷ record { given = length (itemKeys (keys (97 ∷ 32 ∷ 32 ∷ 97 ∷ []))) ∷ []; wanted = 2 ∷ [] }
+    ∷ record { given = dispatched 18446744073709551615 twice; wanted = 0 ∷ 1 ∷ 101 ∷ 1 ∷ 3 ∷ [] }
+    -- "budget 0 gives 9"
+    ∷ record { given = dispatched 0 twice; wanted = 9 ∷ 0 ∷ 0 ∷ 0 ∷ 1 ∷ [] }
     ∷ []
 
 -- every row holds

@@ -1,8 +1,14 @@
 // Document 01's acceptance bench, rows that are only run: an index of 2 slots and 4 items with two items of topic T and key k, at first time 10,000.
-// Each line: from time, the second item's link, then the answer's number, the positions found and the items read.
+// Each of the first three lines: from time, the second item's link, then the answer's number, the positions found and the items read.
+// The other two: the system flag of a record of topic T and unique key k, then dispatch's answer, its steps, the queue's entries and the used count.
 ghost use Prim.Native.Nat.{_+_, _≤_};
+use commit_log::Geometry;
+use dispatch::Sizes;
 use index_file::IndexSizes;
 use index_file::Queried;
+use record::Fields;
+use units::LogPosition;
+use units::QueueOffset;
 
 // The 20 bytes of an item at position `position`, 0 seconds after the first time, linked to `previous`.
 fn put_item(index: &mut [u8; 128], at: usize, position: u64, previous: u32)
@@ -53,8 +59,73 @@ fn run(from: u64, link: u32) {
     print(made.read, b"\n");
 }
 
+// The numbers of a record with this system flag, the first of queue 0.
+fn fields(system_flag: u32) -> Fields {
+    Fields {
+        body_crc: 0,
+        queue_id: 0,
+        flag: 0,
+        queue_offset: QueueOffset(0),
+        system_flag,
+        born_time: 0,
+        born_host: 0,
+        store_time: 10000,
+        store_host: 0,
+        reconsume_times: 0,
+        prepared_offset: 0,
+    }
+}
+
+// One record, appended and dispatched.
+fn file(system_flag: u32) {
+    let mut log = [0u8; 1024];
+    let mut queues = [0u8; 20];
+    let mut index = [0u8; 128];
+    let mut counts = [0u64; 16];
+    let geometry = Geometry {
+        segment_size: 1024,
+        first_position: 0,
+    };
+    let appended = commit_log::append(
+        &mut log,
+        geometry,
+        LogPosition(0),
+        fields(system_flag),
+        b"",
+        b"T",
+        b"UNIQ_KEY\x01k",
+    );
+    let sizes = Sizes {
+        geometry,
+        entries: 1,
+        index: IndexSizes {
+            slot_count: 2,
+            item_count: 4,
+        },
+    };
+    let made = dispatch::dispatch(
+        &log,
+        appended.write_position,
+        sizes,
+        b"\x09\x00\x01\x00\x00\x00\x00\x00T",
+        LogPosition(0),
+        &mut counts,
+        &mut queues,
+        &mut index,
+        2,
+    );
+    let answer = made.answer;
+    print(system_flag as u64, b" ");
+    print(answer.number() as u64, b" ");
+    print(made.steps, b" ");
+    print(counts[0], b" ");
+    print(codec::get_u32(&index, 36) as u64, b"\n");
+}
+
 fn main() {
     run(10000, 1);
     run(10500, 1);
     run(10000, 2);
+    file(0);
+    file(4);
 }

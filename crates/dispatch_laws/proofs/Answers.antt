@@ -1,0 +1,142 @@
+-- No step is stopped with 9: a call that answers 9 has spent its budget. Assumes nothing.
+use Prim.Native.Nat.{ℕ, _+_}
+use mathlib.Core.Path.{_≡_, refl, subst}
+use mathlib.Core.Bool.{Bool, true, false, not, _&&_, _||_}
+use mathlib.Core.List.{List}
+use native.Mathlib.Omega.{arith}
+use lib.Dec.{ltb, leb, eqb}
+use lib.ListN.{length, getD, take}
+use Rattle.codec.specs.Bytes.{big, field, part}
+use Rattle.units.specs.declared.LogPosition.{LogPosition}
+use Rattle.units.specs.declared.Answer.{Answer}
+use Rattle.units.specs.declared.Answer.the-variants.{Done, Unreadable, Damaged}
+use Rattle.units.specs.Answers.{numberOf}
+use Rattle.directory.specs.declared.Located.{Located}
+use Rattle.directory.specs.declared.Located.the-variants.{Unlisted, Row}
+use Rattle.directory.specs.Directory.{rowOf}
+use Rattle.record.specs.declared.Record.{Record}
+use Rattle.record.specs.declared.Entry.{Entry}
+use Rattle.record.specs.declared.Entry.the-variants.{Stop, Blank, Message}
+use Rattle.record.specs.Record.{fieldsOf, fieldsSound, textRules, lengthsOf, fitBody, fitTopic, fitProperties, soundAs, judged, recordOf, headOf, headed, entryAt}
+use Rattle.commit_log.specs.Log.{segmentRest, seen, entryWithin}
+use Rattle.commit_log.proofs.Outcomes.{pick-either}
+use Rattle.index_file.specs.Items.{isAhead, isFull, anyBadSlot, itemsAnswer}
+use Rattle.machine.specs.Steps.{Outcome, moved, stopped}
+use Rattle.dispatch.specs.Dispatch.{Fixed, View, State, rowPlan, entryPlan, planAnswer, unless, dutiesOf, topicOf, planOf, hashesOf, fileAs, fileOf, entryHere, stepAs, stepOf}
+use Rattle.dispatch_laws.specs.Claims.{NeverSpent}
+
+-- the answers of rules 1 to 7, but for a spent budget: 0, 8, 10 to 16
+abbrev byRule : Answer → Bool
+byRule a = eqb (numberOf a) 0 || eqb (numberOf a) 8 || (leb 10 (numberOf a) && leb (numberOf a) 16)
+
+abbrev Ruled : Answer → Type 0
+Ruled a = byRule a ≡ true
+
+-- an entry and an outcome that, if they stop, stop so
+abbrev Reads : Entry → Type 0
+Reads y = (a : Answer) → y ≡ Stop a → Ruled a
+
+abbrev Goes : Outcome State → Type 0
+Goes o = (a : Answer) → o ≡ stopped a → Ruled a
+
+-- ---- rules 2 to 4
+
+stops : (b : Answer) → Ruled b → Reads (Stop b)
+stops b r a e = let same : b ≡ a = cc in subst Ruled same r
+
+damaged : Reads (Stop Damaged)
+damaged = stops Damaged refl
+
+unreadable : Reads (Stop Unreadable)
+unreadable = stops Unreadable refl
+
+blank : (n : ℕ) → Reads (Blank n)
+blank n a e = absurd (let z : _≡_ {A = ℕ} 0 1 = cc in omega arith)
+
+message : {m : Record} → Reads (Message m)
+message a e = absurd (let z : _≡_ {A = ℕ} 0 1 = cc in omega arith)
+
+record-reads : (p : LogPosition) (own : List ℕ) → Reads (recordOf p own)
+unfolding recordOf judged lengthsOf fitBody fitTopic fitProperties soundAs
+record-reads p own =
+    let b = field big 4 84 own in
+    let t = field big 1 (88 + b) own in
+    let q = field big 2 (89 + b + t) own in
+    pick-either (λ k. Reads (judged p own k)) (ltb (length own) (91 + b)) _ _ damaged
+    (pick-either (λ k. Reads (judged p own k)) (eqb t 0 || ltb 127 t || ltb (length own) (91 + b + t)) _ _ damaged
+    (pick-either (λ k. Reads (judged p own k)) (ltb 32767 q || not (eqb (91 + b + t + q) (length own))) _ _ damaged
+    (pick-either Reads (eqb (field big 8 28 own) (p .0)) _ _
+    (pick-either Reads (fieldsSound (fieldsOf 8 8 own)) _ _
+    (pick-either Reads (textRules (part t (89 + b) own) (part q (91 + b + t) own)) _ _ message damaged)
+    damaged)
+    damaged)))
+
+entry-reads : (p : LogPosition) (r : ℕ) (seen : List ℕ) → Reads (entryAt p r seen)
+unfolding entryAt headOf headed
+entry-reads p r seen =
+    let room = length seen in
+    let total = field big 4 0 seen in
+    let magic = field big 4 4 seen in
+    pick-either Reads (ltb r 8) _ _ damaged
+    (pick-either Reads (ltb room 8) _ _ unreadable
+    (pick-either (λ k. Reads (headed p seen k)) (eqb magic 0xCBD43194) _ _
+    (pick-either (λ k. Reads (headed p seen k)) (eqb total r) _ _
+    (pick-either (λ k. Reads (headed p seen k)) (ltb room r) _ _ unreadable (blank r))
+    damaged)
+    (pick-either (λ k. Reads (headed p seen k)) (eqb magic 0xDAA320A7) _ _
+    (pick-either (λ k. Reads (headed p seen k)) (ltb total 92 || ltb 4194304 total || ltb r (total + 8)) _ _ damaged
+    (pick-either (λ k. Reads (headed p seen k)) (ltb room total) _ _ unreadable (record-reads p (take total seen))))
+    damaged)))
+
+-- ---- rules 6 and 7
+
+plan-ruled : (makes : Bool) (r : ℕ) (directory counts : List ℕ) (m : Record) (topic : List ℕ) → Ruled (planAnswer (entryPlan makes r directory counts m topic))
+unfolding entryPlan rowPlan planAnswer
+plan-ruled makes r directory counts m topic =
+    pick-either (λ k. Ruled (planAnswer k)) makes _ _ (go (rowOf topic (m .fields .«queue_id») directory)) refl
+  where
+    go : (row : Located) → Ruled (planAnswer (rowPlan r counts (m .fields .«queue_offset») row))
+    go Unlisted = refl
+    go (Row i) =
+        pick-either (λ k. Ruled (planAnswer k)) (not (eqb (m .fields .«queue_offset» .0) (getD counts i 0))) _ _ refl
+        (pick-either (λ k. Ruled (planAnswer k)) (eqb (getD counts i 0) r) _ _ refl refl)
+
+items-ruled : (k n : ℕ) (index : List ℕ) (position : ℕ) (hs : List ℕ) → Ruled (itemsAnswer k n index position hs)
+unfolding itemsAnswer
+items-ruled k n index position hs =
+    pick-either Ruled (eqb (length hs) 0) _ _ refl
+    (pick-either Ruled (isAhead index position) _ _ refl
+    (pick-either Ruled (isFull n index (length hs)) _ _ refl
+    (pick-either Ruled (anyBadSlot k index hs) _ _ refl refl)))
+
+halts : (b : Answer) → Ruled b → Goes (stopped b)
+halts b r a e = let same : b ≡ a = cc in subst Ruled same r
+
+unless-goes : (a : Answer) (next : Outcome State) → Ruled a → Goes next → Goes (unless a next)
+unfolding unless
+unless-goes a next r g = pick-either Goes (eqb (numberOf a) 0) next (stopped a) g (halts a r)
+
+done : {t : State} → Goes (moved t)
+done a e = absurd (let z : _≡_ {A = ℕ} 0 1 = cc in omega arith)
+
+step-goes : (f : Fixed) (v : View) (s : State) → Goes (stepOf f v s)
+unfolding stepOf stepAs entryWithin fileOf fileAs
+step-goes f v s = pick-either Goes (eqb (s .position .0) (v .end .0)) _ _ (halts Done refl) (go (entryHere f v s) refl)
+  where
+    go : (y : Entry) → entryHere f v s ≡ y → Goes (stepAs f v s y)
+    go (Stop a) h =
+        let g = f .sizes .geometry in
+        halts a (entry-reads (s .position) (segmentRest g (s .position)) (seen (v .log) g (s .position) (v .end)) a h)
+    go (Blank n) h = done
+    go (Message m) h =
+        unless-goes (planAnswer (planOf f v s m)) _
+        (plan-ruled (dutiesOf m .entry) (f .sizes .entries) (f .directory) (s .counts) m (topicOf f v s m))
+        (unless-goes _ _
+        (items-ruled (f .sizes .index .«slot_count») (f .sizes .index .«item_count») (s .index) (m .position .0) (hashesOf f v s m))
+        done)
+
+pub never-spent : NeverSpent
+never-spent f v s e =
+    let z : false ≡ true = step-goes f v s _ e in
+    let y : _≡_ {A = ℕ} 0 1 = cc in
+    omega arith

@@ -1,0 +1,123 @@
+-- Demand 2's query clause on an index that a list of dispatch calls built from empty. Assumes nothing.
+use Prim.Native.Nat.{ℕ, zero, suc, _+_, _*_, _<_, _≤_}
+use native.Mathlib.Omega.{arith}
+use mathlib.Core.Path.{_≡_, refl, subst}
+use mathlib.Core.Logic.{⊎-elim}
+use mathlib.Core.Bool.{Bool, true, false, _&&_}
+use mathlib.Core.List.{List, []}
+use lib.ListN.{length}
+use borrow.Author.Tests.{leb-true}
+use Rattle.codec.specs.Choice.{pick}
+use Rattle.codec.proofs.Choices.{both}
+use Rattle.record.specs.Record.{fieldsSound}
+use Rattle.commit_log.specs.Log.{geometryOk}
+use Rattle.consume_queue.specs.Queue.{entriesOk}
+use Rattle.index_file.specs.Index.{sizesOk}
+use Rattle.index_file.specs.History.{Empty, Put, build, All}
+use Rattle.index_file.specs.Inner.{Sized}
+use Rattle.index_file.specs.Claims.{Built}
+use Rattle.index_file.proofs.Judged.{sizes-facts}
+use Rattle.index_file.proofs.Items.{checked-room, item-hashes-small}
+use Rattle.index_file.proofs.History.{fresh-empty, fresh-one, built-holds, put-built, filed-built, rising-times}
+use Rattle.index_file.proofs.Exact.{query-exact}
+use Rattle.machine.specs.Steps.{Outcome, moved, stopped, andThen, walk}
+use Rattle.machine.specs.Calls.{total, final, Leads}
+use Rattle.machine.proofs.Steps.{moved-inj, never}
+use Rattle.dispatch.specs.declared.Sizes.{Sizes}
+use Rattle.dispatch.specs.Dispatch.{Fixed, View, State, sizesFit, recordHashes, filedAs, entryHere, movedBy, stepOf, hashesOf, dispatcher}
+use Rattle.dispatch.specs.Inner.{Moves, over-blank, over-record}
+use Rattle.dispatch.proofs.Moves.{moves}
+use Rattle.dispatch_laws.specs.History.{putBy, onward, puts}
+use Rattle.dispatch_laws.specs.Claims.{QueryAfterCalls, QueryAfterRisingTimes}
+use Rattle.dispatch_laws.proofs.Doors.{opened, bounded-log}
+use Rattle.dispatch_laws.proofs.Demand3.{demand-3, accepted-at}
+
+-- ---- steps
+
+-- the door lets an index through that was built
+built-sized : (k n : ℕ) (start : List ℕ) (ps : List Put) → Built k n start ps → Sized k n (build k start ps)
+built-sized k n start ps b =
+    let z = sizes-facts k n (length start) (b .sizes) .0 in
+    let h = built-holds k n start ps b in
+    record {
+      some = z .some;
+      most = z .most;
+      few = z .few;
+      long = h .long;
+      count = let a = h .sound .used in omega arith;
+      fill = let a = h .sound .filled in omega arith;
+    }
+
+hashes-small : (makes : Bool) (topic properties : List ℕ) → All (λ (h : ℕ). h < 2147483648) (recordHashes makes topic properties)
+unfolding recordHashes pick
+hashes-small true topic properties = item-hashes-small topic properties
+hashes-small false topic properties = tt
+
+module _ (f : Fixed) (v : View) (top : v .end .0 ≤ 1099511627776) (start : List ℕ) where
+  abbrev k : ℕ
+  k = f .sizes .index .«slot_count»
+
+  abbrev n : ℕ
+  n = f .sizes .index .«item_count»
+
+  -- the index is the one that ps built
+  record Stands (index : List ℕ) (ps : List Put) : Type 0 where
+    pub built : Built k n start ps
+    pub is : index ≡ build k start ps
+
+  step-stands : (s t : State) (ps : List Put) → Stands (s .index) ps → stepOf f v s ≡ moved t → Stands (t .index) (putBy f v s (entryHere f v s) ps)
+  unfolding putBy movedBy filedAs fieldsSound
+  step-stands s t ps h e = go (moves f v s t e)
+    where
+      go : Moves f v s t → Stands (t .index) (putBy f v s (entryHere f v s) ps)
+      go (over-blank m here least below left) = rw (here, left) h
+      go (over-record m here w) =
+          let p = m .position .0 in
+          let time = m .fields .«store_time» in
+          let hs = hashesOf f v s m in
+          let room = checked-room k n (s .index) p hs (rw (h .is) (built-sized k n start ps (h .built))) (w .checked) in
+          rw (here, w .left)
+          (record {
+            built = filed-built k n start ps p time hs (h .built) (rw (h .is) at room) (hashes-small _ _ _)
+                (rw (w .here) (let a = w .below in omega arith)) (leb-true _ _ (both _ _ (both _ _ (w .numbers) .0) .0));
+            is = rw (h .is) (put-built k p time hs start ps);
+          })
+
+  walk-stands : (m : ℕ) (s t : State) (ps : List Put) → Stands (s .index) ps → walk (stepOf f v) m s ≡ moved t → Stands (t .index) (puts f v m s ps)
+  unfolding walk andThen puts onward
+  walk-stands zero s t ps h e = subst (λ (u : State). Stands (u .index) ps) (moved-inj e) h
+  walk-stands (suc m) s t ps h e = go (stepOf f v s) refl (walk-stands m) e
+    where
+      go : (o : Outcome State) → stepOf f v s ≡ o
+          → ((s t : State) (ps : List Put) → Stands (s .index) ps → walk (stepOf f v) m s ≡ moved t → Stands (t .index) (puts f v m s ps))
+          → andThen o (walk (stepOf f v) m) ≡ moved t → Stands (t .index) (onward o ps (λ u. puts f v m u (putBy f v s (entryHere f v s) ps)))
+      go (moved u) w ih g = ih u t _ (step-stands s u ps h w) g
+      go (stopped a) w ih g = never g
+
+-- ---- the list
+
+index-sizes : (z : Sizes) (log index : ℕ) → sizesFit z log index ≡ true → sizesOk (z .index .«slot_count») (z .index .«item_count») index ≡ true
+unfolding sizesFit
+index-sizes z log index e = both (geometryOk (z .geometry) log && entriesOk (z .entries)) _ e .1
+
+-- an empty index of sizes within their limits is built, by no put
+built-none : (k n long : ℕ) (start : List ℕ) → sizesOk k n long ≡ true → Empty k n start → Built k n start []
+built-none k n long start e z =
+    let l : length start ≡ 40 + 4 * k + 20 * n = ⊎-elim (λ w. rw w (fresh-empty k n .long)) (λ w. rw w (fresh-one k n .long)) z in
+    let i = sizes-facts k n long e in
+    record { sizes = rw (l, ← i .1) e; empty = z; room = (let a = i .0 .two in omega arith); fit = tt }
+
+pub query-after-calls : QueryAfterCalls
+unfolding Leads build
+query-after-calls rs s chain steady d l z rise topic key first last wanted out q =
+    let f = d .fixed in
+    let v = d .view in
+    let t = accepted-at dispatcher rs s d l in
+    let o = opened f v (t .0) (t .1) in
+    let w = walk-stands f v (omega (arith, o .placed .end, bounded-log f v (t .0) (t .1) .top)) (s .index) (total dispatcher rs) s (final dispatcher rs s) []
+    (record { built = built-none _ _ (length (t .0 .index)) (s .index) (index-sizes (f .sizes) _ _ (o .sized)) z; is = refl })
+    (rw l at (demand-3 rs s chain steady .whole)) in
+    rw (w .is) (query-exact _ _ (s .index) (puts f v (total dispatcher rs) s []) (w .built) rise topic key first last wanted out q)
+
+pub query-after-rising-times : QueryAfterRisingTimes
+query-after-rising-times rs s chain steady d l z rise = query-after-calls rs s chain steady d l z (rising-times _ _ rise)

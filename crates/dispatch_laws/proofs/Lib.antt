@@ -1,0 +1,5 @@
+pub mod Doors
+pub mod Stable
+pub mod Demand3
+pub mod Answers
+pub mod Built
