@@ -19,7 +19,7 @@ fn refused(answer: u32) -> bool {
     (1..=4).contains(&answer)
 }
 
-/// Runs a list of calls from the store's state, which is after it as the list leaves it.
+/// Runs a list of calls from the store's state, which is after it as the list leaves it. The log is as it was.
 pub fn run_list(bench: &mut Bench, random: &Random, store: &mut Store) -> Check<()> {
     let start = store.state.clone();
     let appended = store.log.get().to_vec();
@@ -30,7 +30,7 @@ pub fn run_list(bench: &mut Bench, random: &Random, store: &mut Store) -> Check<
     let mut last_is_accepted = false;
     let mut refused_before = false;
     let mut refused_between = false;
-    for _ in 0..random.below(9) {
+    for _ in 0..random.below(13) {
         bench.counts.lists.calls += 1;
         if random.one_in(5) {
             let mut other = Variation::of(store, random.pick(&[0, 1, u64::MAX]));
@@ -66,6 +66,7 @@ pub fn run_list(bench: &mut Bench, random: &Random, store: &mut Store) -> Check<
         }
     }
 
+    store.log.set(0, &appended);
     bench.counts.lists.steps += steps_done;
     bench.counts.lists.refused_between += u64::from(refused_between);
     let Some(last) = last_accepted else {
@@ -112,13 +113,14 @@ fn next_end(random: &Random, store: &Store, named_end: u64) -> u64 {
         [] => written_end,
         entries => random.pick(entries),
     };
-    let end = match random.below(20) {
-        0 => named_end,
-        1 => store.log_end(),
-        2 => random.between(named_end, store.log_end()),
-        3 => entry + random.pick(&[1, 7, 8, 9, 91, 92, 100]),
-        4..=9 => entry,
-        10..=13 => written_end.min(named_end + random.below(700)),
+    let end = match random.below(60) {
+        // Past what was appended: what stands there is mostly damaged, and the end never falls again.
+        0 => store.log_end(),
+        1 => random.between(named_end, store.log_end()),
+        2..=4 => named_end,
+        5..=12 => entry + random.pick(&[1, 7, 8, 9, 91, 92, 100]),
+        13..=30 => entry,
+        31..=45 => written_end.min(named_end + random.below(700)),
         _ => written_end,
     };
     end.clamp(named_end, store.log_end())
@@ -133,15 +135,12 @@ fn rewrite_unnamed(
     named_end: u64,
     readable_end: u64,
 ) {
-    if random.one_in(3) {
-        return;
-    }
     let free = store.place(named_end);
     store.log.set(free, &appended[free..]);
-    let changed = if random.one_in(20) {
-        free
-    } else {
-        store.place(readable_end)
+    let changed = match random.below(30) {
+        0 => free,
+        1..=9 => return,
+        _ => store.place(readable_end),
     };
     let room = (store.log.len() - changed) as u64;
     if room == 0 {

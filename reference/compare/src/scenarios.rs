@@ -36,13 +36,15 @@ pub fn run(bench: &mut Bench, seed: u64, number: u64) -> Check<()> {
 
 /// A store's life: appended, perhaps damaged, read, dispatched by a list of calls, queues read, index queried.
 fn life(bench: &mut Bench, random: &Random, wide: bool) -> Check<()> {
+    let sound = random.one_in(2);
     let plan = Plan {
         wide,
-        troubled: random.one_in(3),
+        roomy: sound,
+        troubled: !sound && random.one_in(2),
         single: false,
     };
     let mut store = Store::filled(bench, random, plan)?;
-    if random.one_in(3) {
+    if !sound && random.one_in(2) {
         for _ in 0..random.between(1, 3) {
             match random.below(8) {
                 0..=4 => store.damage_log(random),
@@ -52,7 +54,7 @@ fn life(bench: &mut Bench, random: &Random, wide: bool) -> Check<()> {
             }
         }
     }
-    if random.one_in(10) {
+    if !sound && random.one_in(5) {
         // From any progress.
         let position = store.shape.b + random.below(store.log.len() as u64 + 1);
         let entry = match store.entries.as_slice() {
@@ -66,12 +68,17 @@ fn life(bench: &mut Bench, random: &Random, wide: bool) -> Check<()> {
     }
     read_records(bench, random, &store)?;
     run_list(bench, random, &mut store)?;
-    for _ in 0..random.below(5) {
+    if random.one_in(3) {
+        // The sender goes on.
+        store.fill(bench, random, plan)?;
+        run_list(bench, random, &mut store)?;
+    }
+    for _ in 0..random.below(6) {
         let counts = counts_of(&store);
         let reading = queue_reading(random, &store, counts);
         bench.read_queue(&reading)?;
     }
-    for _ in 0..random.below(7) {
+    for _ in 0..random.below(10) {
         query(bench, random, &store)?;
     }
     append_anywhere(bench, random, &mut store)
@@ -328,7 +335,7 @@ fn append_anywhere(bench: &mut Bench, random: &Random, store: &mut Store) -> Che
         let mut position = match random.below(8) {
             0 => store.log_end(),
             1 => store.log_end() + 1,
-            2 => store.shape.b.wrapping_sub(1),
+            2 => store.shape.b.wrapping_sub(random.pick(&[1, 8, 92, 100])),
             3 => random.absurd(),
             4 => store.shape.b + random.below(store.log.len() as u64),
             _ => segment_end - random.below(120),
@@ -350,11 +357,7 @@ fn append_anywhere(bench: &mut Bench, random: &Random, store: &mut Store) -> Che
 
 /// A dispatched store whose index is worn: links, seconds, positions, slots and header fields.
 fn worn_index(bench: &mut Bench, random: &Random) -> Check<()> {
-    let plan = Plan {
-        wide: false,
-        troubled: false,
-        single: false,
-    };
+    let plan = Plan::default();
     let mut store = Store::filled(bench, random, plan)?;
     let mut state = store.state.clone();
     let budget = random.pick(&[1, 2, 3, 5, u64::MAX, u64::MAX, u64::MAX]);
@@ -395,11 +398,7 @@ fn worn_index(bench: &mut Bench, random: &Random) -> Check<()> {
 
 /// Calls with faults at several doors at once, and absurd numbers in every parameter.
 fn doors(bench: &mut Bench, random: &Random) -> Check<()> {
-    let plan = Plan {
-        wide: false,
-        troubled: false,
-        single: false,
-    };
+    let plan = Plan::default();
     let mut store = Store::filled(bench, random, plan)?;
     if random.one_in(2) {
         let mut state = store.state.clone();
@@ -479,6 +478,11 @@ fn dispatch_doors(bench: &mut Bench, random: &Random, store: &Store) -> Check<()
         bytes.resize(length, 0);
         state.index = Twin::new(&bytes);
     }
+    if random.one_in(10) {
+        // An index that fits what is wrong.
+        (other.slot_count, other.item_count) = few(random, store);
+        state.index = Twin::zeros(Store::index_length(other.slot_count, other.item_count));
+    }
     if random.one_in(4) {
         // One parameter beside what is meant, fault or not.
         match random.below(7) {
@@ -533,6 +537,12 @@ fn queue_doors(bench: &mut Bench, random: &Random, store: &Store) -> Check<()> {
     Ok(())
 }
 
+/// Too few slots or items, or as few as can be.
+fn few(random: &Random, store: &Store) -> (u64, u64) {
+    let (k, n) = (store.slot_count, store.item_count);
+    random.pick(&[(0, n), (k, 1), (k, 0), (0, 0), (1, 1), (1, 2)])
+}
+
 fn query_doors(bench: &mut Bench, random: &Random, store: &Store) -> Check<()> {
     let mut other = Variation::of(store, 0);
     let mut index = store.state.index.get().to_vec();
@@ -546,6 +556,10 @@ fn query_doors(bench: &mut Bench, random: &Random, store: &Store) -> Check<()> {
     if random.one_in(6) {
         let length = index.len();
         index.resize(random.pick(&[0, 1, 39, 40, length - 1, length + 1]), 0);
+    }
+    if random.one_in(10) {
+        (other.slot_count, other.item_count) = few(random, store);
+        index = vec![0; Store::index_length(other.slot_count, other.item_count)];
     }
     let topic_length = random.pick(&[0, 1, 1, 1, 2, 127, 128]);
     let key_length = random.pick(&[0, 1, 1, 1, 2, 300]);
@@ -631,11 +645,7 @@ fn log_doors(bench: &mut Bench, random: &Random, store: &Store) -> Check<()> {
 
 /// Directories of every make, read by both operations that take one.
 fn directories(bench: &mut Bench, random: &Random) -> Check<()> {
-    let plan = Plan {
-        wide: false,
-        troubled: false,
-        single: false,
-    };
+    let plan = Plan::default();
     let mut store = Store::empty(random, plan);
     for _ in 0..6 {
         let mut rows: Vec<Vec<u8>> = Vec::new();
@@ -715,15 +725,15 @@ fn directories(bench: &mut Bench, random: &Random) -> Check<()> {
 fn listings(bench: &mut Bench, random: &Random) -> Check<()> {
     let plan = Plan {
         wide: random.one_in(60),
-        troubled: false,
         single: true,
+        ..Plan::default()
     };
     let mut store = Store::filled(bench, random, plan)?;
-    if random.one_in(2) {
+    if random.one_in(3) {
         store.damage_log(random);
     }
     let mut segment = store.log.get().to_vec();
-    if random.one_in(2) && store.written_end < segment.len() as u64 {
+    if !random.one_in(4) && store.written_end < segment.len() as u64 {
         // Another length, closed by a blank.
         let written = store.written_end as usize;
         let length = if random.one_in(20) {
@@ -740,7 +750,9 @@ fn listings(bench: &mut Bench, random: &Random) -> Check<()> {
     if random.one_in(20) {
         segment.truncate(random.pick(&[0, 1, 8, 1_023]));
     }
-    let text_length = random.pick(&[65_536, 65_536, 65_536, 65_536, 65_537, 65_535, 0, 1, 27]);
+    let text_length = random.pick(&[
+        65_536, 65_536, 65_536, 65_536, 65_536, 65_537, 65_535, 0, 27,
+    ]);
     bench.list(&segment, text_length)?;
     Ok(())
 }
@@ -785,11 +797,7 @@ fn largest_sizes(bench: &mut Bench, random: &Random) -> Check<()> {
             tag_code: 0,
             places: 5,
         })?;
-        let plan = Plan {
-            wide: false,
-            troubled: false,
-            single: false,
-        };
+        let plan = Plan::default();
         let mut store = Store::filled(bench, random, plan)?;
         store.queue_entries = queue_entries;
         store.state.queues = Twin::zeros(20 * queue_entries as usize * store.rows.len());

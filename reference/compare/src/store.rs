@@ -8,6 +8,18 @@ use crate::random::Random;
 pub const MESSAGE_MAGIC: [u8; 4] = [0xDA, 0xA3, 0x20, 0xA7];
 pub const BLANK_MAGIC: [u8; 4] = [0xCB, 0xD4, 0x31, 0x94];
 
+/// Store times to begin with: none, within the first second, whole and broken seconds, of this age, near the end.
+const FIRST_TIMES: [u64; 8] = [
+    0,
+    1,
+    999,
+    10_000,
+    10_000,
+    10_500,
+    1_700_000_000_000,
+    LARGEST_TIME - 9_999,
+];
+
 /// 2^40, the highest log position.
 pub const LARGEST_POSITION: u64 = 1 << 40;
 
@@ -26,11 +38,15 @@ pub struct Store {
     pub state: State,
     /// Store times in the log, for queries to ask about.
     pub times: Vec<u64>,
+    /// Entries that each queue has once all is dispatched.
+    counts: [u64; 16],
 }
 
 /// What a store is made of.
-#[derive(Clone, Copy)]
+#[derive(Clone, Copy, Default)]
 pub struct Plan {
+    /// Queues and index have room for all, and nothing was dispatched before.
+    pub roomy: bool,
     /// Segments and records of tens of thousands of bytes.
     pub wide: bool,
     /// Records out of step, unlisted or refused at some rate.
@@ -78,13 +94,13 @@ impl Store {
             random.between(33_000, 70_000)
         } else {
             random.pick(&[
-                1_024, 1_024, 1_024, 1_024, 1_024, 1_025, 1_031, 1_100, 1_531, 2_048,
+                1_024, 1_024, 1_024, 1_024, 1_024, 1_024, 1_025, 1_031, 1_100, 1_531, 2_048, 4_096,
             ])
         };
         let (segments, b) = if plan.single {
             (1, 0)
         } else {
-            let segments = random.pick(&[1, 2, 2, 3, 4]);
+            let segments = random.pick(&[1, 2, 2, 3, 4, 6]);
             let highest = LARGEST_POSITION / s - segments;
             (segments, s * random.pick(&[0, 0, 0, 1, 7, highest]))
         };
@@ -93,12 +109,20 @@ impl Store {
             .iter()
             .flat_map(|(topic, queue_id)| row(topic, *queue_id))
             .collect();
-        let queue_entries = random.pick(&[1, 2, 3, 5, 8, 30, 30, 30, 30, 30, 30, 30, 30]);
+        let queue_entries = if plan.roomy {
+            80
+        } else if random.one_in(3) {
+            random.pick(&[1, 2, 3, 5, 8])
+        } else {
+            30
+        };
         let slot_count = random.pick(&[1, 2, 2, 3, 7, 16]);
         let item_count = if plan.wide {
             random.pick(&[2, 100, 20_000])
+        } else if !plan.roomy && random.one_in(3) {
+            random.pick(&[2, 3, 4, 5, 9, 17, 40])
         } else {
-            random.pick(&[2, 3, 4, 5, 9, 17, 40, 80, 80, 80, 80, 80, 80, 80])
+            random.pick(&[80, 200, 200])
         };
         let mut progress = [0; 17];
         progress[0] = b;
@@ -127,70 +151,61 @@ impl Store {
             },
             rows,
             times: Vec::new(),
+            counts: [0; 16],
         }
     }
 
-    /// A store with records, appended until the log is full or the sender stops.
+    /// A store with records.
     pub fn filled(bench: &mut Bench, random: &Random, plan: Plan) -> Check<Store> {
         let mut store = Store::empty(random, plan);
-        let mut counts = [0u64; 16];
-        if random.one_in(6) {
+        if !plan.roomy && random.one_in(6) {
             // The queues have entries already.
-            for (row, count) in counts.iter_mut().enumerate() {
+            for (row, count) in store.counts.iter_mut().enumerate() {
                 *count = random.below(store.queue_entries + 1);
                 store.state.progress.set(1 + row, &[*count]);
             }
         }
-        let mut time = random.pick(&[
-            0,
-            1,
-            999,
-            10_000,
-            10_000,
-            10_500,
-            1_700_000_000_000,
-            LARGEST_TIME - 9_999,
-        ]);
-        let most = random.pick(&[1, 3, 8, 40, 40, 40, 40]);
-        for _ in 0..most {
-            time = store_time(random, time);
-            let listed = random.below(store.rows.len() as u64) as usize;
-            let mut draft = store.draft(random, plan, listed, counts[listed], time);
-            if plan.troubled {
-                store.mislead(&mut draft, random);
-            }
-            let answer = store.append(bench, &draft)?;
-            if answer == 0 {
-                let type_bits = draft.system_flag & 12;
-                let (topic, queue_id) = &store.rows[listed];
-                let listed_still = draft.topic == *topic && draft.queue_id == *queue_id;
-                if (type_bits == 0 || type_bits == 8) && listed_still {
-                    counts[listed] += 1;
-                }
-                store.times.push(time);
-            }
-            if answer == 6 && !random.one_in(3) {
-                break;
-            }
-        }
+        store.fill(bench, random, plan)?;
         if random.one_in(12) {
             store.close(random);
         }
         Ok(store)
     }
 
-    fn draft(
-        &self,
-        random: &Random,
-        plan: Plan,
-        listed: usize,
-        queue_offset: u64,
-        store_time: u64,
-    ) -> Draft {
+    /// Appends until the log is full or the sender stops.
+    pub fn fill(&mut self, bench: &mut Bench, random: &Random, plan: Plan) -> Check<()> {
+        let mut time = match self.times.last() {
+            Some(time) => *time,
+            None => random.pick(&FIRST_TIMES),
+        };
+        for _ in 0..random.pick(&[1, 3, 8, 40, 40, 40, 40]) {
+            time = store_time(random, time);
+            let listed = random.below(self.rows.len() as u64) as usize;
+            let mut draft = self.draft(random, plan, listed, time);
+            if plan.troubled {
+                self.mislead(&mut draft, random);
+            }
+            let answer = self.append(bench, &draft)?;
+            if answer == 0 {
+                let (topic, queue_id) = &self.rows[listed];
+                let listed_still = draft.topic == *topic && draft.queue_id == *queue_id;
+                if matches!(draft.system_flag & 12, 0 | 8) && listed_still {
+                    self.counts[listed] += 1;
+                }
+                self.times.push(draft.store_time);
+            }
+            if answer == 6 && !random.one_in(3) {
+                break;
+            }
+        }
+        Ok(())
+    }
+
+    fn draft(&self, random: &Random, plan: Plan, listed: usize, store_time: u64) -> Draft {
         let (topic, queue_id) = &self.rows[listed];
         let mut draft = Draft {
             queue_id: *queue_id,
-            queue_offset,
+            queue_offset: self.counts[listed],
             system_flag: random.pick(&[0, 0, 0, 0, 4, 8, 8, 12])
                 | random.pick(&[0, 0, 1, 2, 3, 64, 0x8000_0000, 0xFFFF_FFC3]),
             store_time,
@@ -198,6 +213,11 @@ impl Store {
             ..Draft::least(topic)
         };
         draft.scatter(random);
+        if plan.single {
+            // The lister writes both: numbers of every width.
+            draft.queue_id = (random.next() >> random.between(33, 63)) as u32;
+            draft.store_time = random.next() >> random.between(16, 63);
+        }
         if plan.wide && random.one_in(2) {
             draft.properties = wide_properties(random);
         }
@@ -380,6 +400,9 @@ impl Store {
                     i32::MAX as u32,
                     u32::MAX,
                     u32::MAX - 90,
+                    total.wrapping_sub(87),
+                    total.wrapping_sub(88),
+                    total.wrapping_sub(90),
                     total.wrapping_sub(91),
                     total.wrapping_sub(92),
                 ]);
