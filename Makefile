@@ -12,7 +12,6 @@
 VERSION = 0.1.0
 PREFIX ?= /usr/local
 DESTDIR ?=
-CC ?= cc
 CFLAGS ?= -O2
 COUNT ?= 20000
 SEED ?= 1

@@ -28,6 +28,9 @@ fn main() {
         );
         exit(1);
     }
+    let directory = directory
+        .canonicalize()
+        .expect("the archive's directory is there");
     println!("cargo:rerun-if-changed={}", archive.display());
     println!("cargo:rustc-link-search=native={}", directory.display());
     println!("cargo:rustc-link-lib=static=swistopal");

@@ -43,7 +43,16 @@ pub enum Answer {
 }
 
 impl Answer {
-    /// Every answer, by its number.
+    /// Every answer, at the place of its number.
+    ///
+    /// ```
+    /// use swistopal::Answer;
+    ///
+    /// for (number, answer) in Answer::ALL.into_iter().enumerate() {
+    ///     assert_eq!(answer.number() as usize, number);
+    ///     assert!(!answer.to_string().is_empty());
+    /// }
+    /// ```
     pub const ALL: [Answer; 18] = [
         Answer::Done,
         Answer::BadSizes,

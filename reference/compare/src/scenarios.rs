@@ -3,7 +3,9 @@
 use crate::lent::Twin;
 use crate::lists::run_list;
 use crate::messages::{Draft, KEYS, LARGEST_TIME, TOPICS};
-use crate::operations::{Bench, Check, Difference, LogShape, Operation, Question, QueueReading};
+use crate::operations::{
+    Bench, Check, Difference, DispatchCall, LogShape, Operation, Question, QueueReading,
+};
 use crate::random::Random;
 use crate::store::{row, Plan, Store, BLANK_MAGIC, LARGEST_POSITION};
 use crate::variation::Variation;
@@ -24,8 +26,9 @@ pub fn run(bench: &mut Bench, seed: u64, number: u64) -> Check<()> {
         return largest_record(bench, random);
     }
     match random.below(100) {
-        0..=49 => life(bench, random, false),
-        50..=66 => worn_index(bench, random),
+        0..=43 => life(bench, random, false),
+        44..=51 => edges(bench, random),
+        52..=66 => worn_index(bench, random),
         67..=84 => doors(bench, random),
         85..=90 => directories(bench, random),
         91..=98 => listings(bench, random),
@@ -114,6 +117,53 @@ fn read_records(bench: &mut Bench, random: &Random, store: &Store) -> Check<()> 
         }
         if whole.0 == 0 && whole.1[0] == 1 && random.one_in(3) {
             append_again(bench, store, position, &whole.1)?;
+        }
+    }
+    Ok(())
+}
+
+/// One damage after the other to single records and blanks, each read and dispatched with readable ends around it.
+fn edges(bench: &mut Bench, random: &Random) -> Check<()> {
+    let plan = Plan {
+        roomy: true,
+        ..Plan::default()
+    };
+    let mut store = Store::filled(bench, random, plan)?;
+    let sound = store.log.clone();
+    for _ in 0..8 {
+        let position = match store.entries.as_slice() {
+            [] => return Ok(()),
+            entries => random.pick(entries),
+        };
+        store.log = sound.clone();
+        for _ in 0..random.pick(&[0, 1, 1, 1, 2]) {
+            store.damage_entry(random, position);
+        }
+        let at = store.place(position);
+        let total = &store.log.get()[at..at + 4];
+        let total = u64::from(u32::from_be_bytes(total.try_into().expect("4 bytes")));
+        let r = store.bytes_to_segment_end(position);
+        let room = store.log_end() - position;
+        for length in [
+            7,
+            8,
+            random.between(9, 91),
+            92,
+            total.max(1) - 1,
+            total,
+            r - 1,
+            r,
+            room,
+        ] {
+            let readable_end = position + length.min(room);
+            bench.read_record(&store.log, store.shape, position, readable_end)?;
+            let mut state = store.state.clone();
+            state.progress.set(0, &[position]);
+            let call = DispatchCall {
+                readable_end,
+                ..store.call(random.pick(&[1, 2, u64::MAX]))
+            };
+            bench.dispatch(&call, &mut state)?;
         }
     }
     Ok(())

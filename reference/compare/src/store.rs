@@ -343,9 +343,13 @@ impl Store {
     /// Damages one place of the log that the rules look at.
     pub fn damage_log(&mut self, random: &Random) {
         let position = self.some_entry(random);
-        if position >= self.log_end() {
-            return;
+        if position < self.log_end() {
+            self.damage_entry(random, position);
         }
+    }
+
+    /// Damages one place that the rules look at of what stands at a position in the log.
+    pub fn damage_entry(&mut self, random: &Random, position: u64) {
         let r = self.bytes_to_segment_end(position);
         let at = self.place(position);
         let int =
