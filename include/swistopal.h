@@ -1,9 +1,8 @@
 /*
  * Swistopal: RocketMQ's commit log, consume queues and index file on lent buffers.
  *
- * Six functions. Each is total: any numbers and any bytes bring an answer, and nothing outside the lent buffers is read
- * or written. No function keeps a pointer, allocates, blocks or uses global state; calls on different buffers may run at
- * the same time.
+ * Six functions. Each is total: any numbers and any bytes bring an answer. The answer and every lent byte afterwards
+ * depend on the arguments alone; nothing is kept between calls.
  *
  * A buffer is a pointer and a length. The pointer of a buffer of length 0 may be anything that is not null. A pointer
  * to a fixed array or to a single number is never null.

@@ -136,7 +136,7 @@ fn keys_value(random: &Random) -> Vec<u8> {
     if random.one_in(6) {
         value.push(b' ');
     }
-    for number in 0..random.below(4) {
+    for number in 0..random.pick(&[0, 1, 1, 2, 2, 3, 3, 4, 9]) {
         if number > 0 {
             value.extend(b" ".repeat(random.between(1, 2) as usize));
         }

@@ -1,6 +1,6 @@
 //! The six operations, each through the C interface and through the model, and the comparison of all they leave.
 
-use std::fmt::{Debug, Display};
+use std::fmt::Display;
 use std::panic::{catch_unwind, AssertUnwindSafe};
 
 use model::interface;

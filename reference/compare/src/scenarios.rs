@@ -716,6 +716,12 @@ fn directories(bench: &mut Bench, random: &Random) -> Check<()> {
         if random.one_in(8) && !rows.is_empty() {
             rows.push(random.pick(&rows));
         }
+        if random.one_in(8) && !rows.is_empty() {
+            // A topic too short or too long, all else in order.
+            let place = random.below(rows.len() as u64) as usize;
+            let length = random.pick(&[0, 0, 128, 129]);
+            rows[place] = row(&vec![b't'; length], 5);
+        }
         if random.one_in(6) && !rows.is_empty() {
             let last = rows.len() as u64 - 1;
             let spoiled = &mut rows[random.pick(&[0, last, random.below(last + 1)]) as usize];

@@ -178,7 +178,13 @@ impl Store {
             Some(time) => *time,
             None => random.pick(&FIRST_TIMES),
         };
-        for _ in 0..random.pick(&[1, 3, 8, 40, 40, 40, 40]) {
+        let most = if plan.wide && plan.single {
+            // As many lines as a segment can make.
+            random.pick(&[40, 800])
+        } else {
+            random.pick(&[1, 3, 8, 40, 40, 40, 40])
+        };
+        for _ in 0..most {
             time = store_time(random, time);
             let listed = random.below(self.rows.len() as u64) as usize;
             let mut draft = self.draft(random, plan, listed, time);
@@ -230,6 +236,10 @@ impl Store {
         }
         if random.one_in(60) {
             draft.grow_to(self.shape.s - random.between(6, 9), random);
+        }
+        if plan.wide && plan.single && !random.one_in(20) {
+            draft.body.clear();
+            draft.properties.clear();
         }
         draft
     }
