@@ -183,8 +183,9 @@ fn say_difference(seed: u64, scenario: u64, difference: &Difference) {
     );
     println!("  {}", difference.call);
     println!("  field     {}", difference.field);
-    println!("  archive   {}", difference.archive);
-    println!("  model     {}", difference.model);
+    for (side, value) in &difference.sides {
+        println!("  {side:<9} {value}");
+    }
     if let Some(note) = &difference.note {
         println!("  {note}");
     }

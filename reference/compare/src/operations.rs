@@ -61,8 +61,8 @@ pub struct Difference {
     pub number: u64,
     pub call: String,
     pub field: String,
-    pub archive: String,
-    pub model: String,
+    /// Both sides and what they have there.
+    pub sides: [(&'static str, String); 2],
     pub note: Option<String>,
 }
 
@@ -170,10 +170,14 @@ pub struct Bench {
     careful: bool,
 }
 
+/// The sides of most differences.
+const ARCHIVE_AND_MODEL: [&str; 2] = ["archive", "model"];
+
 /// Names the call at hand in a difference.
 struct Judge<'a> {
     operation: Operation,
     number: u64,
+    sides: [&'static str; 2],
     call: &'a dyn Fn() -> String,
 }
 
@@ -184,8 +188,10 @@ impl Judge<'_> {
             number: self.number,
             call: (self.call)(),
             field: field.to_string(),
-            archive: archive.to_string(),
-            model: model.to_string(),
+            sides: [
+                (self.sides[0], archive.to_string()),
+                (self.sides[1], model.to_string()),
+            ],
             note: None,
         }))
     }
@@ -293,6 +299,7 @@ impl Bench {
         let judge = Judge {
             operation: Operation::Append,
             number: self.number,
+            sides: ARCHIVE_AND_MODEL,
             call: &describe,
         };
         let body = Lent::new(message.body);
@@ -379,6 +386,7 @@ impl Bench {
         let judge = Judge {
             operation: Operation::ReadRecord,
             number: self.number,
+            sides: ARCHIVE_AND_MODEL,
             call: &describe,
         };
         let mut archive_out = Lent::new(&[OLD; 17]);
@@ -429,9 +437,10 @@ impl Bench {
         for budget in 0..call.budget.min(1_000) {
             let shorter = DispatchCall { budget, ..*call };
             if let Err(difference) = quiet.dispatch_once(&shorter, &mut before.clone()) {
+                let [(_, archive), (_, model)] = &difference.sides;
                 return Some(format!(
-                    "with a budget of {budget} it differs too: {} is {} in the archive and {} in the model",
-                    difference.field, difference.archive, difference.model
+                    "with a budget of {budget} it differs too: {} is {archive} in the archive and {model} in the model",
+                    difference.field
                 ));
             }
         }
@@ -462,6 +471,7 @@ impl Bench {
         let judge = Judge {
             operation: Operation::Dispatch,
             number: self.number,
+            sides: ARCHIVE_AND_MODEL,
             call: &describe,
         };
         let mut archive_steps = Lent::new(&[OLD]);
@@ -540,6 +550,7 @@ impl Bench {
         let judge = Judge {
             operation: Operation::ReadQueue,
             number: self.number,
+            sides: ARCHIVE_AND_MODEL,
             call: &describe,
         };
         let mut out = vec![OLD; reading.places];
@@ -614,6 +625,7 @@ impl Bench {
         let judge = Judge {
             operation: Operation::Query,
             number: self.number,
+            sides: ARCHIVE_AND_MODEL,
             call: &describe,
         };
         let mut out = vec![OLD; question.places];
@@ -671,6 +683,7 @@ impl Bench {
         let judge = Judge {
             operation: Operation::List,
             number: self.number,
+            sides: ARCHIVE_AND_MODEL,
             call: &describe,
         };
         let lent_segment = Lent::new(segment);
@@ -696,6 +709,25 @@ impl Bench {
         Ok(archive)
     }
 
+    /// Demand 2 on the archive alone: what it did against what is known.
+    pub fn expect<T: PartialEq + Display>(
+        &self,
+        operation: Operation,
+        call: &str,
+        field: &str,
+        archive: T,
+        expected: T,
+    ) -> Check<()> {
+        let describe = || call.to_string();
+        let judge = Judge {
+            operation,
+            number: self.number,
+            sides: ["archive", "expected"],
+            call: &describe,
+        };
+        judge.same(field, archive, expected)
+    }
+
     /// Demand 3 on the archive alone: what a list of calls left, and what one call from its start leaves.
     pub fn same_end(
         &self,
@@ -703,11 +735,11 @@ impl Bench {
         list: (u32, u64, &State),
         one_call: (u32, u64, &State),
     ) -> Check<()> {
-        let describe =
-            || format!("{call}; here \"model\" is the list of calls, both are the archive");
+        let describe = || call.to_string();
         let judge = Judge {
             operation: Operation::Dispatch,
             number: self.number,
+            sides: ["one call", "list"],
             call: &describe,
         };
         judge.same("answer", one_call.0, list.0)?;

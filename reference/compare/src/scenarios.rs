@@ -3,9 +3,7 @@
 use crate::lent::Twin;
 use crate::lists::run_list;
 use crate::messages::{Draft, KEYS, LARGEST_TIME, TOPICS};
-use crate::operations::{
-    Bench, Check, Difference, DispatchCall, LogShape, Operation, Question, QueueReading,
-};
+use crate::operations::{Bench, Check, DispatchCall, LogShape, Operation, Question, QueueReading};
 use crate::random::Random;
 use crate::store::{row, Plan, Store, BLANK_MAGIC, LARGEST_POSITION};
 use crate::variation::Variation;
@@ -197,18 +195,13 @@ fn append_again(bench: &mut Bench, store: &Store, position: u64, fields: &[u64; 
     let mut log = store.log.clone();
     let mut write_position = position;
     let answer = bench.append(&mut log, store.shape, &draft.message(), &mut write_position)?;
-    if answer == 0 && write_position == position + fields[1] && log.get() == bytes {
-        return Ok(());
-    }
-    Err(Box::new(Difference {
-        operation: Operation::Append,
-        number: 0,
-        call: format!("append again of the record read at {position}; both are the archive"),
-        field: "answer, write_position or log".to_string(),
-        archive: format!("{answer}, {write_position}"),
-        model: format!("0, {} and the log's own bytes", position + fields[1]),
-        note: None,
-    }))
+    let call = format!("append again of the record read at {position}");
+    let expect =
+        |field, archive, expected| bench.expect(Operation::Append, &call, field, archive, expected);
+    expect("answer", u64::from(answer), 0)?;
+    expect("write_position", write_position, position + fields[1])?;
+    let changed = log.get().iter().zip(bytes).filter(|(new, old)| new != old);
+    expect("bytes changed", changed.count() as u64, 0)
 }
 
 fn counts_of(store: &Store) -> [u64; 16] {
