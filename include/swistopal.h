@@ -123,11 +123,12 @@ enum swistopal_record_kind { SWISTOPAL_RECORD = 1, SWISTOPAL_BLANK = 2 };
  * In the log the body stands 88 bytes after position, the topic 89 + body length after it, the properties 91 + body
  * length + topic length after it.
  *
- * Answers, judged in this order:
+ * Answers; 1 is judged before 2, and both before the rest:
  *   1   S, B or log_len
  *   2   not B <= position <= readable_end <= B + log_len
  *   8   position is readable_end, or what stands there is not wholly below readable_end
- *   10  damaged: not a sound record and not a blank
+ *   10  damaged: not a sound record and not a blank. Where fewer than 8 bytes remain in the segment, or the first 8
+ *       bytes (total and magic) are bad, this comes before 8; any other damage shows once the whole record is readable
  *   0   out[0] is 1 for a record and 2 for a blank, out[1] its length; of a record out[2] to out[16] are its fields,
  *       as enum swistopal_record_field names them; of a blank they are 0
  * On 1, 2, 8 and 10 all of out is 0. No byte at or above readable_end decides anything.
@@ -151,8 +152,7 @@ uint32_t swistopal_read_record(
  * Stops, judged in this order before each step:
  *   9   budget steps are done
  *   0   caught up: progress[0] is readable_end
- *   8   what stands at progress[0] is not wholly below readable_end
- *   10  damaged
+ *   8 or 10  as in swistopal_read_record
  *   11  queue not listed (none and commit only)
  *   12  the queue offset is not the queue's count
  *   13  the queue is full

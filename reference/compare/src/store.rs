@@ -276,11 +276,11 @@ impl Store {
     /// Appends, and once more after a blank.
     pub fn append(&mut self, bench: &mut Bench, draft: &Draft) -> Check<u32> {
         let mut position = self.written_end;
-        let mut answer = self.append_at(bench, draft, position)?;
+        let mut answer = self.append_once(bench, draft)?;
         if answer == 7 {
             self.entries.push(position);
             position = self.written_end;
-            answer = self.append_at(bench, draft, position)?;
+            answer = self.append_once(bench, draft)?;
         }
         if answer == 0 {
             self.entries.push(position);
@@ -288,14 +288,9 @@ impl Store {
         Ok(answer)
     }
 
-    fn append_at(&mut self, bench: &mut Bench, draft: &Draft, position: u64) -> Check<u32> {
-        self.written_end = position;
-        bench.append(
-            &mut self.log,
-            self.shape,
-            &draft.message(),
-            &mut self.written_end,
-        )
+    fn append_once(&mut self, bench: &mut Bench, draft: &Draft) -> Check<u32> {
+        let message = draft.message();
+        bench.append(&mut self.log, self.shape, &message, &mut self.written_end)
     }
 
     /// Writes a blank by hand, as append leaves none in the last segment.
