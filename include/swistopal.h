@@ -127,8 +127,9 @@ enum swistopal_record_kind { SWISTOPAL_RECORD = 1, SWISTOPAL_BLANK = 2 };
  *   1   S, B or log_len
  *   2   not B <= position <= readable_end <= B + log_len
  *   8   position is readable_end, or what stands there is not wholly below readable_end
- *   10  damaged: not a sound record and not a blank. Where fewer than 8 bytes remain in the segment, or the first 8
- *       bytes (total and magic) are bad, this comes before 8; any other damage shows once the whole record is readable
+ *   10  damaged: not a sound record and not a blank. Below readable_end this comes before 8 where fewer than 8 bytes
+ *       remain in the segment, or where the first 8 bytes (total and magic) are readable and bad; any other damage shows
+ *       once the whole record is readable
  *   0   out[0] is 1 for a record and 2 for a blank, out[1] its length; of a record out[2] to out[16] are its fields,
  *       as enum swistopal_record_field names them; of a blank they are 0
  * On 1, 2, 8 and 10 all of out is 0. No byte at or above readable_end decides anything.
@@ -153,12 +154,14 @@ uint32_t swistopal_read_record(
  *   9   budget steps are done
  *   0   caught up: progress[0] is readable_end
  *   8 or 10  as in swistopal_read_record
- *   11  queue not listed (none and commit only)
+ *   11  the queue is not listed
  *   12  the queue offset is not the queue's count
  *   13  the queue is full
  *   15  the index has an item and its last position is not below this record
  *   14  the index has no room for all items of the record
  *   16  a slot that the items need holds a number below 0 or not below the used count
+ * 11 to 13 concern records that make a queue entry: transaction type none or commit (system flag bits 4 and 8 are 0 or
+ * 8). 14 to 16 concern records that make index items: every type but rollback (12), with a unique key or keys.
  * On a refusal nothing is changed and *steps is 0. On a stop the *steps steps stand: progress, queues and index are
  * those after them, and nothing of the next record is written.
  *
