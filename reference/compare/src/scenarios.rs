@@ -11,7 +11,7 @@ use crate::variation::Variation;
 /// Scenarios with buffers at the limits of the sizes come at fixed numbers: they take long.
 const LARGEST_SIZES_EVERY: u64 = 50_000;
 const LARGEST_SIZES_AT: u64 = 900;
-const LARGEST_RECORD_EVERY: u64 = 2_500;
+const LARGEST_RECORD_EVERY: u64 = 5_000;
 const LARGEST_RECORD_AT: u64 = 600;
 
 /// Runs scenario `number` of a seed.
@@ -21,7 +21,7 @@ pub fn run(bench: &mut Bench, seed: u64, number: u64) -> Check<()> {
         return largest_sizes(bench, random);
     }
     if number % LARGEST_RECORD_EVERY == LARGEST_RECORD_AT {
-        return largest_record(bench, random);
+        return largest_record(bench);
     }
     match random.below(100) {
         0..=43 => life(bench, random, false),
@@ -785,7 +785,7 @@ fn listings(bench: &mut Bench, random: &Random) -> Check<()> {
     if !random.one_in(4) && store.written_end < segment.len() as u64 {
         // Another length, closed by a blank.
         let written = store.written_end as usize;
-        let length = if random.one_in(20) {
+        let length = if random.one_in(8) {
             random.pick(&[65_535, 65_536, 65_537, 70_000])
         } else {
             random.pick(&[written + 8, written + 9, 1_023, 1_024, 1_025, segment.len()])
@@ -806,18 +806,17 @@ fn listings(bench: &mut Bench, random: &Random) -> Check<()> {
     Ok(())
 }
 
-/// Records of 4,194,304 bytes and one more.
-fn largest_record(bench: &mut Bench, random: &Random) -> Check<()> {
+/// Records of 4,194,304 bytes and one more, in segments that are just too short for the first, just long enough, longer.
+fn largest_record(bench: &mut Bench) -> Check<()> {
     const LARGEST: u64 = 4_194_304;
-    let s = random.pick(&[LARGEST + 7, LARGEST + 8, LARGEST + 9, LARGEST + 200]);
-    let shape = LogShape { s, b: 0 };
-    let mut log = Twin::zeros(s as usize);
-    for total in [LARGEST - 1, LARGEST, LARGEST + 1] {
-        let mut draft = Draft::least(b"T");
-        draft.body = vec![0xBD; total as usize - 92];
-        let mut write_position = 0;
-        bench.append(&mut log, shape, &draft.message(), &mut write_position)?;
-        for total in [total, total + 1] {
+    for s in [LARGEST + 7, LARGEST + 8, LARGEST + 200] {
+        let shape = LogShape { s, b: 0 };
+        let mut log = Twin::zeros(s as usize);
+        for total in [LARGEST, LARGEST + 1] {
+            let mut draft = Draft::least(b"T");
+            draft.body = vec![0xBD; total as usize - 92];
+            let mut write_position = 0;
+            bench.append(&mut log, shape, &draft.message(), &mut write_position)?;
             log.set(0, &(total as u32).to_be_bytes());
             for end in [8, total - 1, total, s] {
                 bench.read_record(&log, shape, 0, end.min(s))?;
@@ -886,6 +885,12 @@ fn largest_sizes(bench: &mut Bench, random: &Random) -> Check<()> {
             &mut write_position,
         )?;
         bench.read_record(&log, shape, shape.b + s - 500, shape.b + s)?;
+    }
+    for length in [1_023u32, 1_024, 65_535, 65_536, 65_537] {
+        let mut segment = vec![0; length as usize];
+        segment[..4].copy_from_slice(&length.to_be_bytes());
+        segment[4..8].copy_from_slice(&BLANK_MAGIC);
+        bench.list(&segment, 65_536)?;
     }
     Ok(())
 }
