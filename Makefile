@@ -1,0 +1,73 @@
+# What others link: the archive, the header, a pkg-config file and the lister.
+#
+#   make                         the archive, proved
+#   make install PREFIX=/usr     header, archive, swistopal.pc and lister
+#   make example                 builds and runs examples/store.c
+#   make compare COUNT=20000 SEED=1   the archive against the independent model
+#   make mutants                 the comparison against wrong models
+#   make interface               header, example, installation and Rust bindings (tests/interface.sh)
+#
+# SWISTOPAL_LIB_DIR names another archive's directory, LISTER another lister: both must be there already.
+
+VERSION = 0.1.0
+PREFIX ?= /usr/local
+DESTDIR ?=
+CFLAGS ?= -O2
+COUNT ?= 20000
+SEED ?= 1
+
+built_lib_dir := $(CURDIR)/target/staticlib
+built_lister := target/bin/lister
+SWISTOPAL_LIB_DIR ?= $(built_lib_dir)
+LISTER ?= $(built_lister)
+export SWISTOPAL_LIB_DIR
+
+archive := $(SWISTOPAL_LIB_DIR)/libswistopal.a
+sources := crates.txt $(shell find crates -name '*.rt' -o -name '*.antt')
+
+.PHONY: all install example compare mutants interface
+all: $(archive)
+
+$(built_lib_dir)/libswistopal.a: $(sources)
+	rt staticlib swistopal
+
+$(built_lister): $(sources)
+	rt check lister
+
+# Phony: the prefix may be another one than last time.
+.PHONY: target/swistopal.pc
+target/swistopal.pc:
+	mkdir -p target
+	printf '%s\n' \
+	    'prefix=$(PREFIX)' \
+	    'libdir=$${prefix}/lib' \
+	    'includedir=$${prefix}/include' \
+	    '' \
+	    'Name: swistopal' \
+	    'Description: RocketMQ commit log, consume queues and index file on lent buffers' \
+	    'Version: $(VERSION)' \
+	    'Libs: -L$${libdir} -lswistopal' \
+	    'Cflags: -I$${includedir}' > $@
+
+install: $(archive) $(LISTER) target/swistopal.pc
+	install -d $(DESTDIR)$(PREFIX)/include $(DESTDIR)$(PREFIX)/lib/pkgconfig $(DESTDIR)$(PREFIX)/bin
+	install -m 644 include/swistopal.h $(DESTDIR)$(PREFIX)/include/swistopal.h
+	install -m 644 $(archive) $(DESTDIR)$(PREFIX)/lib/libswistopal.a
+	install -m 644 target/swistopal.pc $(DESTDIR)$(PREFIX)/lib/pkgconfig/swistopal.pc
+	install -m 755 $(LISTER) $(DESTDIR)$(PREFIX)/bin/lister
+
+target/example/store: examples/store.c include/swistopal.h $(archive)
+	mkdir -p target/example
+	$(CC) -std=c11 -Wall -Wextra -Werror $(CFLAGS) -Iinclude -o $@ examples/store.c $(archive)
+
+example: target/example/store
+	target/example/store
+
+compare: $(archive)
+	cargo run --quiet --release --offline --manifest-path reference/Cargo.toml -p compare -- --seed $(SEED) --count $(COUNT)
+
+mutants: $(archive)
+	reference/mutants.py
+
+interface: $(archive) $(LISTER)
+	tests/interface.sh

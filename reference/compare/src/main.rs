@@ -1,0 +1,229 @@
+//! Compares the archive behind the C interface with the model, scenario by scenario. Scenario i of a seed depends on
+//! nothing else, so it can be repeated alone.
+
+mod archive;
+mod lent;
+mod lists;
+mod messages;
+mod operations;
+mod random;
+mod scenarios;
+mod store;
+mod variation;
+
+use std::process::ExitCode;
+use std::sync::atomic::{AtomicU64, Ordering};
+use std::sync::{Condvar, Mutex};
+use std::time::{Duration, Instant};
+
+use operations::{Bench, Check, Counts, Difference, Operation};
+
+const USAGE: &str = "usage: compare [--seed N] [--count N] [--only SCENARIO]";
+
+/// Time between progress lines.
+const PROGRESS_EVERY: Duration = Duration::from_secs(10);
+
+struct Arguments {
+    seed: u64,
+    count: u64,
+    only: Option<u64>,
+}
+
+fn arguments() -> Option<Arguments> {
+    let mut arguments = Arguments {
+        seed: 1,
+        count: 20_000,
+        only: None,
+    };
+    let mut given = std::env::args().skip(1);
+    while let Some(name) = given.next() {
+        let number = given.next()?.parse().ok()?;
+        match name.as_str() {
+            "--seed" => arguments.seed = number,
+            "--count" => arguments.count = number,
+            "--only" => arguments.only = Some(number),
+            _ => return None,
+        }
+    }
+    Some(arguments)
+}
+
+fn main() -> ExitCode {
+    let Some(arguments) = arguments() else {
+        eprintln!("{USAGE}");
+        return ExitCode::from(2);
+    };
+    println!("seed {}", arguments.seed);
+    if let Some(scenario) = arguments.only {
+        return run_only(arguments.seed, scenario);
+    }
+    run_all(arguments.seed, arguments.count)
+}
+
+fn run_scenario(bench: &mut Bench, seed: u64, scenario: u64) -> Check<()> {
+    lent::begin_scenario();
+    scenarios::run(bench, seed, scenario)
+}
+
+/// One scenario, each of its operations said.
+fn run_only(seed: u64, scenario: u64) -> ExitCode {
+    let mut bench = Bench::new(true);
+    match run_scenario(&mut bench, seed, scenario) {
+        Ok(()) => {
+            println!("scenario {scenario}: no difference");
+            ExitCode::SUCCESS
+        }
+        Err(difference) => {
+            say_difference(seed, scenario, &difference);
+            ExitCode::FAILURE
+        }
+    }
+}
+
+/// What the threads share.
+struct Run {
+    seed: u64,
+    /// The next scenario that nobody has taken.
+    next: AtomicU64,
+    /// Scenarios from here on are not wanted: the count, or the first one that differs.
+    limit: AtomicU64,
+    found: Mutex<Option<(u64, Box<Difference>)>>,
+    threads_left: Mutex<usize>,
+    thread_ended: Condvar,
+}
+
+fn run_all(seed: u64, count: u64) -> ExitCode {
+    let threads = std::thread::available_parallelism().map_or(1, |number| number.get());
+    let run = Run {
+        seed,
+        next: AtomicU64::new(0),
+        limit: AtomicU64::new(count),
+        found: Mutex::new(None),
+        threads_left: Mutex::new(threads),
+        thread_ended: Condvar::new(),
+    };
+    let mut counts = Counts::default();
+    let started = Instant::now();
+    std::thread::scope(|scope| {
+        let workers: Vec<_> = (0..threads)
+            .map(|_| {
+                scope.spawn(|| {
+                    let _ended = Ended(&run);
+                    work(&run)
+                })
+            })
+            .collect();
+        say_progress(&run, count, started);
+        for worker in workers {
+            counts.add(&worker.join().expect("a worker that ends"));
+        }
+    });
+    if let Some((scenario, difference)) = run.found.into_inner().expect("no worker panicked") {
+        say_difference(seed, scenario, &difference);
+        return ExitCode::FAILURE;
+    }
+    report(&counts, count, started.elapsed())
+}
+
+/// Tells the waiting thread that a worker is through, also by a panic.
+struct Ended<'a>(&'a Run);
+
+impl Drop for Ended<'_> {
+    fn drop(&mut self) {
+        if let Ok(mut left) = self.0.threads_left.lock() {
+            *left -= 1;
+        }
+        self.0.thread_ended.notify_all();
+    }
+}
+
+/// Takes scenarios in order, so that the first one that differs is found whatever the threads do.
+fn work(run: &Run) -> Counts {
+    let mut counts = Counts::default();
+    loop {
+        let scenario = run.next.fetch_add(1, Ordering::Relaxed);
+        if scenario >= run.limit.load(Ordering::Relaxed) {
+            return counts;
+        }
+        let mut bench = Bench::new(false);
+        if let Err(difference) = run_scenario(&mut bench, run.seed, scenario) {
+            run.limit.fetch_min(scenario, Ordering::Relaxed);
+            let mut found = run.found.lock().expect("no worker panicked");
+            if found.as_ref().is_none_or(|(first, _)| scenario < *first) {
+                *found = Some((scenario, difference));
+            }
+        }
+        counts.add(&bench.counts);
+    }
+}
+
+/// A line on standard error now and then, until every worker is through.
+fn say_progress(run: &Run, count: u64, started: Instant) {
+    let mut left = run.threads_left.lock().expect("no worker panicked");
+    while *left > 0 {
+        let (still, waited) = run
+            .thread_ended
+            .wait_timeout(left, PROGRESS_EVERY)
+            .expect("no worker panicked");
+        left = still;
+        if waited.timed_out() {
+            let taken = run.next.load(Ordering::Relaxed).min(count);
+            let rate = taken as f64 / started.elapsed().as_secs_f64();
+            eprintln!("compare: {taken} of {count} scenarios, {rate:.0} a second");
+        }
+    }
+}
+
+fn say_difference(seed: u64, scenario: u64, difference: &Difference) {
+    println!("difference in scenario {scenario} of seed {seed}");
+    println!(
+        "  operation {} ({})",
+        difference.number,
+        difference.operation.name()
+    );
+    println!("  {}", difference.call);
+    println!("  field     {}", difference.field);
+    for (side, value) in &difference.sides {
+        println!("  {side:<9} {value}");
+    }
+    if let Some(note) = &difference.note {
+        println!("  {note}");
+    }
+    println!("this scenario alone: compare --seed {seed} --only {scenario}");
+}
+
+/// Counts by operation and answer. Fails where an operation did not reach an answer that it can give.
+fn report(counts: &Counts, count: u64, time: Duration) -> ExitCode {
+    let mut missed = Vec::new();
+    for operation in Operation::ALL {
+        let mut line = format!("{:<12}", operation.name());
+        for answer in operation.answers() {
+            let times = counts.answers[operation as usize][*answer as usize];
+            line.push_str(&format!(" {answer}:{times}"));
+            if times == 0 {
+                missed.push(format!("{} {answer}", operation.name()));
+            }
+        }
+        println!("{line}");
+    }
+    let lists = &counts.lists;
+    println!(
+        "lists of dispatch calls: {} ({} calls, {} steps); {} against one call, {} against their steps, {} without an accepted \
+         call; {} with a refused call before an accepted one",
+        lists.one_call + lists.steps_only + lists.none_accepted,
+        lists.calls,
+        lists.steps,
+        lists.one_call,
+        lists.steps_only,
+        lists.none_accepted,
+        lists.refused_between
+    );
+    let rate = count as f64 / time.as_secs_f64().max(0.001);
+    println!("{count} scenarios, 0 differences, {rate:.0} a second");
+    if missed.is_empty() {
+        ExitCode::SUCCESS
+    } else {
+        println!("answers not reached: {}", missed.join(", "));
+        ExitCode::FAILURE
+    }
+}

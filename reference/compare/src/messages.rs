@@ -1,0 +1,219 @@
+//! Messages as senders make them: plausible topics, tags and keys, and at some rate odd ones.
+
+use model::record::Message;
+
+use crate::random::Random;
+
+/// 2^48 − 1, the largest time.
+pub const LARGEST_TIME: u64 = (1 << 48) - 1;
+
+/// Few topics, so that they repeat. `T#a` with key `b` hashes as `T` with key `a#b`.
+pub const TOPICS: [&[u8]; 6] = [b"T", b"TT", b"T#a", b"\xE9\xFF", b"SORTER_EVENTS", b"t"];
+
+/// Few keys, so that they repeat and share slots. With topic `T`, `1LG3HE3` hashes to −2^31, `cdkiej` and `cdkhll` share
+/// an index hash; bytes above 127 show a sign carried along.
+pub const KEYS: [&[u8]; 16] = [
+    b"a",
+    b"b",
+    b"c",
+    b"k",
+    b"a#b",
+    b"Aa",
+    b"BB",
+    b"1LG3HE3",
+    b"cdkiej",
+    b"cdkhll",
+    b"\xC3\xA9",
+    b"\xFF\xFE\xFD\xFC\xFB",
+    b"parcel-000017",
+    b"chute-128",
+    b"\x80",
+    b"zzzzzzzz",
+];
+
+/// `polygenelubricants` hashes to −2^31.
+pub const TAGS: [&[u8]; 8] = [
+    b"Aa",
+    b"BB",
+    b"polygenelubricants",
+    b"\xC3\xA9",
+    b"\xFF\xFF\xFF\xFF\xFF\xFF",
+    b"divert",
+    b"cage-drop",
+    b"a b",
+];
+
+/// A message that owns its bytes.
+#[derive(Clone)]
+pub struct Draft {
+    pub body_crc: u32,
+    pub queue_id: u32,
+    pub flag: u32,
+    pub queue_offset: u64,
+    pub system_flag: u32,
+    pub born_time: u64,
+    pub born_host: u64,
+    pub store_time: u64,
+    pub store_host: u64,
+    pub reconsume_times: u32,
+    pub prepared_offset: u64,
+    pub body: Vec<u8>,
+    pub topic: Vec<u8>,
+    pub properties: Vec<u8>,
+}
+
+impl Draft {
+    /// The least record: 92 bytes.
+    pub fn least(topic: &[u8]) -> Draft {
+        Draft {
+            body_crc: 0,
+            queue_id: 0,
+            flag: 0,
+            queue_offset: 0,
+            system_flag: 0,
+            born_time: 0,
+            born_host: 0,
+            store_time: 10_000,
+            store_host: 0,
+            reconsume_times: 0,
+            prepared_offset: 0,
+            body: Vec::new(),
+            topic: topic.to_vec(),
+            properties: Vec::new(),
+        }
+    }
+
+    pub fn message(&self) -> Message<'_> {
+        Message {
+            body_crc: self.body_crc,
+            queue_id: self.queue_id,
+            flag: self.flag,
+            queue_offset: self.queue_offset,
+            system_flag: self.system_flag,
+            born_time: self.born_time,
+            born_host: self.born_host,
+            store_time: self.store_time,
+            store_host: self.store_host,
+            reconsume_times: self.reconsume_times,
+            prepared_offset: self.prepared_offset,
+            body: &self.body,
+            topic: &self.topic,
+            properties: &self.properties,
+        }
+    }
+
+    pub fn total(&self) -> u64 {
+        (91 + self.body.len() + self.topic.len() + self.properties.len()) as u64
+    }
+
+    /// Gives the record this total by its body, where that can be.
+    pub fn grow_to(&mut self, total: u64, random: &Random) {
+        let rest = self.total() - self.body.len() as u64;
+        if total >= rest {
+            self.body = random.bytes(total - rest);
+        }
+    }
+
+    /// Fields that no rule names hold anything.
+    pub fn scatter(&mut self, random: &Random) {
+        let any = || match random.below(4) {
+            0 => 0,
+            1 => u64::MAX,
+            _ => random.next(),
+        };
+        self.body_crc = any() as u32;
+        self.flag = any() as u32;
+        self.born_time = any();
+        self.born_host = any();
+        self.store_host = any();
+        self.reconsume_times = any() as u32;
+        self.prepared_offset = any();
+    }
+}
+
+fn keys_value(random: &Random) -> Vec<u8> {
+    let mut value = Vec::new();
+    if random.one_in(6) {
+        value.push(b' ');
+    }
+    for number in 0..random.pick(&[0, 1, 1, 2, 2, 3, 3, 4, 9]) {
+        if number > 0 {
+            value.extend(b" ".repeat(random.between(1, 2) as usize));
+        }
+        value.extend(random.pick(&KEYS));
+    }
+    if random.one_in(6) {
+        value.push(b' ');
+    }
+    value
+}
+
+/// A piece of properties that is no pair, or a pair whose name only looks like one that matters.
+fn odd_piece(random: &Random) -> Vec<u8> {
+    const ODD: [&[u8]; 20] = [
+        b"",
+        b"KEYS",
+        b"KEYS\x01",
+        b"KEYS\x01a\x01",
+        b"KEYS\x01a\x01b",
+        b"KEYS\x01\x01a",
+        b"\x01KEYS\x01a",
+        b"\x01a",
+        b"\x01",
+        b"TAGS\x01",
+        b"TAGS",
+        b"UNIQ_KEY\x01",
+        b"UNIQ_KEY\x01a\x01",
+        b"keys\x01a",
+        b"KEYS \x01a",
+        b"KEYSX\x01a",
+        b"KEY\x01a",
+        b"TAGSX\x01Aa",
+        b"UNIQ_KEYS\x01k",
+        b"UNIQ_KE\x01k",
+    ];
+    random.pick(&ODD).to_vec()
+}
+
+/// Properties: mostly a few pairs, names repeated at some rate, odd pieces between them.
+pub fn properties(random: &Random) -> Vec<u8> {
+    let mut pieces: Vec<Vec<u8>> = Vec::new();
+    for _ in 0..random.below(5) {
+        pieces.push(match random.below(12) {
+            0..=2 => [&b"UNIQ_KEY\x01"[..], random.pick(&KEYS)].concat(),
+            3..=5 => [b"KEYS\x01".to_vec(), keys_value(random)].concat(),
+            6..=7 => [&b"TAGS\x01"[..], random.pick(&TAGS)].concat(),
+            8 => [
+                &b"UNIQ_KEY\x01"[..],
+                random.pick(&KEYS),
+                b" ",
+                random.pick(&KEYS),
+            ]
+            .concat(),
+            9..=10 => odd_piece(random),
+            _ => b"WAIT\x01true".to_vec(),
+        });
+    }
+    let mut properties = pieces.join(&2);
+    if random.one_in(2) {
+        properties.push(2);
+    }
+    if random.one_in(40) && !properties.is_empty() {
+        let place = random.below(properties.len() as u64) as usize;
+        properties[place] = random.pick(&[1, 2, b' ', 0, 0xFF]);
+    }
+    properties
+}
+
+/// A store time: near the one before, so that seconds repeat, grow and fall; at some rate far away.
+pub fn store_time(random: &Random, before: u64) -> u64 {
+    match random.below(24) {
+        0 => 0,
+        1 => LARGEST_TIME,
+        2 => random.below(1 << 48),
+        // The seconds' own limit, 2^31 − 1.
+        3 => (before + random.between(2_147_483_646_000, 2_147_483_649_000)).min(LARGEST_TIME),
+        4..=6 => before.saturating_sub(random.pick(&[1, 500, 999, 1_000, 1_001, 5_000])),
+        _ => (before + random.pick(&[0, 0, 1, 400, 999, 1_000, 1_001, 30_000])).min(LARGEST_TIME),
+    }
+}
