@@ -22,6 +22,9 @@ pub struct Point {
     pub growth: f64,
 }
 
+/// A ratio above its target by less than this is noise.
+const NOISE: f64 = 1.1;
+
 fn nanoseconds(time: f64) -> String {
     match time {
         time if time < 100.0 => format!("{time:.1}"),
@@ -43,6 +46,7 @@ pub fn row(row: &Row) {
     let (target, reached) = match row.target {
         None => ("-".to_string(), "-"),
         Some(target) if ratio <= target => (format!("{target:.1}"), "yes"),
+        Some(target) if ratio < target * NOISE => (format!("{target:.1}"), "within noise"),
         Some(target) => (format!("{target:.1}"), "no"),
     };
     println!(

@@ -13,47 +13,48 @@ use std::hint::black_box;
 const QUEUES: u64 = 8;
 const SLOTS: u64 = 5_000_000;
 
+/// Keys of one length, one behind the other.
+struct Texts {
+    bytes: Vec<u8>,
+    length: usize,
+}
+
+impl Texts {
+    fn of(count: u64, text: impl Fn(u64) -> String) -> Texts {
+        let length = text(0).len();
+        let bytes = (0..count).flat_map(|i| text(i).into_bytes()).collect();
+        Texts { bytes, length }
+    }
+
+    fn laps(&self, keys: usize) -> impl Iterator<Item = impl Iterator<Item = &[u8]>> {
+        let laps = self.bytes.chunks(keys * self.length);
+        laps.map(|lap| lap.chunks_exact(self.length))
+    }
+}
+
 struct Context {
     index: Index,
-    keys: Vec<String>,
+    texts: Texts,
+    /// Keys of a lap.
+    lap: usize,
     range: Range,
     out: Vec<u64>,
     state: State,
     sweep: Sweep,
 }
 
-/// What one query gives: answer, counts, output.
-type Result = (u32, [u64; 2], Vec<u64>);
-
-fn query(store: &Store, context: &mut Context, key: usize) -> (u32, [u64; 2]) {
-    store.query(
-        &context.index,
-        TOPIC,
-        context.keys[key].as_bytes(),
-        &context.range,
-        &mut context.out,
-    )
-}
-
-fn results(store: &Store, context: &mut Context) -> Vec<Result> {
-    context.out.fill(u64::MAX);
-    (0..context.keys.len())
-        .map(|key| {
-            let (answer, counts) = query(store, context, key);
-            (answer, counts, context.out.clone())
-        })
-        .collect()
-}
-
 fn side(store: &'static Store) -> impl Fn(&mut Context, &mut Laps) {
     move |context, laps| {
         context.state.prepare(&context.sweep);
-        laps.time(|| {
-            for key in 0..context.keys.len() {
-                black_box(query(store, context, key));
-                black_box(&context.out);
-            }
-        });
+        for keys in context.texts.laps(context.lap) {
+            laps.time(|| {
+                for key in keys {
+                    let out = &mut context.out;
+                    black_box(store.query(&context.index, TOPIC, key, &context.range, out));
+                    black_box(&context.out);
+                }
+            });
+        }
     }
 }
 
@@ -68,23 +69,24 @@ fn number_at(index: &Index, at: usize) -> usize {
     u32::from_be_bytes(bytes) as usize
 }
 
-/// The same slots and items, one after the other, and nothing else.
+/// The same slots and items and nothing else. Each place waits for the load before it, as it does for a caller who waits
+/// for an answer before he asks again.
 fn follow(index: &Index, chains: &[Chain]) -> usize {
     let items = 40 + 4 * index.slot_count as usize;
     let mut last = 0;
     for chain in chains {
-        let mut number = number_at(index, chain.slot);
+        let mut number = number_at(index, chain.slot + (black_box(last) >> 32));
         for _ in 0..chain.items {
             number = number_at(index, items + 20 * number + 16);
         }
-        last ^= number;
+        last = number;
     }
     last
 }
 
 /// A key's slot, by the definition.
-fn slot_of(key: &str) -> usize {
-    let text = TOPIC.iter().chain(b"#").chain(key.as_bytes());
+fn slot_of(key: &[u8]) -> usize {
+    let text = TOPIC.iter().chain(b"#").chain(key);
     let hash = text.fold(0u32, |hash, byte| {
         hash.wrapping_mul(31).wrapping_add(u32::from(*byte))
     });
@@ -92,8 +94,38 @@ fn slot_of(key: &str) -> usize {
     40 + 4 * (magnitude % SLOTS as usize)
 }
 
-/// A key's text by its number.
-type KeyText = fn(u64) -> String;
+/// What each side answers, counts and finds is the same; the chains that the queries read.
+fn check(context: &Context, matches: u64) -> Vec<Chain> {
+    let mut chains = Vec::new();
+    for key in context.texts.laps(1).flatten() {
+        let query = |store: &Store| {
+            let mut out = vec![u64::MAX; context.out.len()];
+            let read = store.query(&context.index, TOPIC, key, &context.range, &mut out);
+            (read, out)
+        };
+        let expected = query(&ARCHIVE);
+        let (answer, counts) = expected.0;
+        assert_eq!(answer, 0, "answer of a query");
+        // Another key may have the same hash.
+        assert!(counts[0] >= matches, "matches of a query");
+        assert!(query(&PLAIN) == expected, "query");
+        chains.push(Chain {
+            slot: slot_of(key),
+            items: counts[1],
+        });
+    }
+    chains
+}
+
+/// Keys of one kind: the matches of each, the keys of a lap and of the whole, the text of a key.
+struct Kind {
+    name: &'static str,
+    matches: u64,
+    lap: usize,
+    keys: u64,
+    all: u64,
+    text: fn(u64) -> String,
+}
 
 pub fn run(effort: Effort, put: &mut dyn FnMut(Row)) {
     let depots = effort.records(500);
@@ -111,7 +143,8 @@ pub fn run(effort: Effort, put: &mut dyn FnMut(Row)) {
     drop(written);
     let mut context = Context {
         index: filed.index,
-        keys: Vec::new(),
+        texts: Texts::of(0, unique_key),
+        lap: 0,
         range: Range {
             first_time: 0,
             last_time: (1 << 48) - 1,
@@ -121,59 +154,73 @@ pub fn run(effort: Effort, put: &mut dyn FnMut(Row)) {
         state: State::Cold,
         sweep: Sweep::new(),
     };
-    let missing: KeyText = |i| format!("{}-missing", unique_key(i));
-    let kinds: [(&str, u64, u64, u64, KeyText); 4] = [
-        ("missing key", 0, 1000, records, missing),
-        ("1 match", 1, 1000, records, unique_key),
-        ("32 matches", 32, 100, orders, order_key),
-        ("1000 matches", 1000, 5, depots, depot_key),
+    let kinds = [
+        Kind {
+            name: "missing key",
+            matches: 0,
+            lap: 1000,
+            keys: records / 4,
+            all: records,
+            text: |i| format!("{}+", unique_key(i)),
+        },
+        Kind {
+            name: "1 match",
+            matches: 1,
+            lap: 1000,
+            keys: records / 4,
+            all: records,
+            text: unique_key,
+        },
+        Kind {
+            name: "32 matches",
+            matches: 32,
+            lap: 100,
+            keys: orders,
+            all: orders,
+            text: order_key,
+        },
+        Kind {
+            name: "1000 matches",
+            matches: 1000,
+            lap: 5,
+            keys: depots,
+            all: depots,
+            text: depot_key,
+        },
     ];
-    for (name, matches, keys, all, text) in kinds {
-        context.keys = (0..keys).map(|i| text(mixed(i) % all)).collect();
-        context.range.wanted = matches;
-        context.out = vec![0; matches.max(32) as usize];
+    for kind in kinds {
         for state in State::BOTH {
             context.state = state;
-            put(measure(effort, name, matches, &mut context));
+            put(measure(effort, &kind, &mut context));
         }
     }
 }
 
-fn measure(effort: Effort, name: &str, matches: u64, context: &mut Context) -> Row {
-    let expected = results(&ARCHIVE, context);
-    assert!(
-        expected
-            .iter()
-            .all(|(answer, counts, _)| *answer == 0 && counts[0] == matches),
-        "queries that find what is there"
-    );
-    assert!(results(&PLAIN, context) == expected, "queries");
-    let chains: Vec<Chain> = context
-        .keys
-        .iter()
-        .zip(&expected)
-        .map(|(key, (_, counts, _))| Chain {
-            slot: slot_of(key),
-            items: counts[1],
-        })
-        .collect();
+fn measure(effort: Effort, kind: &Kind, context: &mut Context) -> Row {
+    let (keys, batches) = match context.state {
+        State::Warm => (kind.lap as u64, effort.batches(2000)),
+        State::Cold => (kind.keys, effort.batches(12)),
+    };
+    context.texts = Texts::of(keys, |i| (kind.text)(mixed(i) % kind.all));
+    context.lap = kind.lap;
+    context.range.wanted = kind.matches;
+    context.out = vec![0; kind.matches.max(32) as usize];
+    let chains = check(context, kind.matches);
     let loads = |context: &mut Context, laps: &mut Laps| {
         context.state.prepare(&context.sweep);
-        black_box(laps.time(|| follow(&context.index, &chains)));
-    };
-    let batches = match context.state {
-        State::Warm => effort.batches(2000),
-        State::Cold => effort.batches(120),
+        for chains in chains.chunks(kind.lap) {
+            black_box(laps.time(|| follow(&context.index, chains)));
+        }
     };
     let times = interleave(batches, context, &[&side(&ARCHIVE), &side(&PLAIN), &loads]);
-    let of_query = |time: f64| time / context.keys.len() as f64;
+    let of_query = |time: f64| time / keys as f64;
     Row {
-        job: format!("query, {name}"),
+        job: format!("query, {}", kind.name),
         state: format!("{}; a query", context.state.name()),
         archive: of_query(times[0]),
         rust: of_query(times[1]),
         further: None,
         limit: Some(of_query(times[2])),
-        target: Some(1.0),
+        target: Some(if kind.matches < 32 { 1.0 } else { 1.1 }),
     }
 }

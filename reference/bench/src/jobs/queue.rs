@@ -10,7 +10,13 @@ use std::hint::black_box;
 const QUEUES: u64 = 8;
 const RECORDS: u64 = 40_000;
 
-/// The tag code of `RUSH`, which one record in four has.
+/// The entry that is read first.
+const FIRST: u64 = 7;
+
+/// Tags that the records have, about as many of each.
+const TAGS: usize = 4;
+
+/// The tag code of `RUSH`, one of them.
 const TAG_CODE: u64 = 2_527_192;
 
 struct Context {
@@ -25,7 +31,7 @@ fn read_all(store: &Store, context: &mut Context, mut visit: impl FnMut((u32, u6
         let read = store.read_queue(
             &context.filed,
             row,
-            7,
+            FIRST,
             context.wanted,
             context.tag_code,
             &mut context.out,
@@ -53,20 +59,23 @@ fn results(store: &Store, context: &mut Context) -> Vec<((u32, u64), Vec<u64>)> 
     results
 }
 
-/// The entries up to the last one found: their positions read and written, with the tag codes read where they decide.
+/// The entries up to the last one found: their positions, or their tag codes where these decide, read and written in the
+/// order of the entries.
 fn load(context: &mut Context, laps: &mut Laps) {
-    let stride = if context.tag_code.is_some() { 4 } else { 1 };
     let wanted = context.wanted as usize;
     let region = context.filed.queue_entries as usize;
+    let (at, times) = match context.tag_code {
+        None => (0, 1),
+        Some(_) => (12, TAGS),
+    };
     laps.time(|| {
         let (entries, _) = context.filed.queues.as_chunks::<20>();
         for row in 0..QUEUES as usize {
-            let entries = &entries[row * region + 7..][..wanted * stride];
-            for (place, group) in context.out.iter_mut().zip(entries.chunks_exact(stride)) {
-                let words = group
-                    .iter()
-                    .map(|entry| u64::from_ne_bytes(entry[..8].try_into().expect("8 bytes")));
-                *place = words.fold(0, |all, word| all | word);
+            let entries = &entries[row * region + FIRST as usize..][..wanted * times];
+            for part in entries.chunks_exact(wanted) {
+                for (place, entry) in context.out.iter_mut().zip(part) {
+                    *place = u64::from_ne_bytes(entry[at..at + 8].try_into().expect("8 bytes"));
+                }
             }
             black_box(&context.out);
         }

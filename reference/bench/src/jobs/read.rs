@@ -7,80 +7,90 @@ use crate::store::{Store, ARCHIVE, PLAIN};
 use crate::timing::{interleave, Laps, State, Sweep};
 use std::hint::black_box;
 
+/// Records of a lap: they fit into the second cache.
+const LAP: usize = 800;
+
 struct Context {
     written: Written,
+    /// Where the records are that are read.
+    positions: Vec<u64>,
     state: State,
     sweep: Sweep,
-}
-
-fn read_all(store: &Store, written: &Written, mut visit: impl FnMut(u32, &[u64; 17])) {
-    let mut position = 0;
-    let mut out = [0; 17];
-    while position < written.end {
-        let answer = store.read_record(&written.log, position, written.end, &mut out);
-        visit(answer, &out);
-        position += out[1];
-    }
 }
 
 fn side(store: &'static Store) -> impl Fn(&mut Context, &mut Laps) {
     move |context, laps| {
         context.state.prepare(&context.sweep);
+        let Written { log, end } = &context.written;
+        for positions in context.positions.chunks(LAP) {
+            laps.time(|| {
+                let mut out = [0; 17];
+                for position in positions {
+                    black_box(store.read_record(log, *position, *end, &mut out));
+                    black_box(&out);
+                }
+            });
+        }
+    }
+}
+
+/// As many bytes as the output has, from each record.
+fn load(context: &mut Context, laps: &mut Laps) {
+    context.state.prepare(&context.sweep);
+    let bytes = &context.written.log.bytes;
+    for positions in context.positions.chunks(LAP) {
         laps.time(|| {
-            read_all(store, &context.written, |_, out| {
-                black_box(out);
-            })
+            for position in positions {
+                let at = *position as usize;
+                let mut out = [0; 17 * 8];
+                out.copy_from_slice(&bytes[at..at + 17 * 8]);
+                black_box(&out);
+            }
         });
     }
 }
 
-/// Where the records are; each side reads the same.
+/// What each side reads is the same; the records' positions.
 fn check(written: &Written) -> Vec<u64> {
-    let mut expected = Vec::new();
-    read_all(&ARCHIVE, written, |answer, out| {
-        assert_eq!(answer, 0, "a record that reads");
-        expected.push(*out);
-    });
-    let mut read = Vec::new();
-    read_all(&PLAIN, written, |answer, out| {
-        assert_eq!(answer, 0, "a record that reads");
-        read.push(*out);
-    });
-    assert!(read == expected, "records read");
-    expected.iter().map(|out| out[6]).collect()
+    let mut positions = Vec::new();
+    let mut position = 0;
+    while position < written.end {
+        let mut expected = [u64::MAX; 17];
+        let answer = ARCHIVE.read_record(&written.log, position, written.end, &mut expected);
+        assert_eq!(answer, 0, "a record or blank that reads");
+        let mut read = [0; 17];
+        let same = PLAIN.read_record(&written.log, position, written.end, &mut read);
+        assert_eq!((same, read), (answer, expected), "record reading");
+        if read[0] == 1 {
+            positions.push(position);
+        }
+        position += read[1];
+    }
+    positions
 }
 
 pub fn run(effort: Effort, put: &mut dyn FnMut(Row)) {
-    let written = written(800, 8, Keys::Distinct);
+    let written = written(effort.records(300_000), 8, Keys::Distinct);
     let positions = check(&written);
     let mut context = Context {
         written,
+        positions: Vec::new(),
         state: State::Warm,
         sweep: Sweep::new(),
     };
-    let load = |context: &mut Context, laps: &mut Laps| {
-        context.state.prepare(&context.sweep);
-        laps.time(|| {
-            for position in &positions {
-                let at = *position as usize;
-                let mut out = [0; 17 * 8];
-                out.copy_from_slice(&context.written.log.bytes[at..at + 17 * 8]);
-                black_box(&out);
-            }
-        });
-    };
     for state in State::BOTH {
-        context.state = state;
-        let batches = match state {
-            State::Warm => effort.batches(6000),
-            State::Cold => effort.batches(150),
+        let (records, batches) = match state {
+            State::Warm => (LAP, effort.batches(6000)),
+            State::Cold => (positions.len(), effort.batches(15)),
         };
+        context.state = state;
+        context.positions = positions[..records].to_vec();
         let times = interleave(
             batches,
             &mut context,
             &[&side(&ARCHIVE), &side(&PLAIN), &load],
         );
-        let of_record = |time: f64| time / positions.len() as f64;
+        let of_record = |time: f64| time / records as f64;
         put(Row {
             job: "record reading".to_string(),
             state: format!("{}; a record of about 300 bytes", state.name()),

@@ -3,14 +3,17 @@
 const MOST_ROWS: usize = 16;
 const ENTRY: u64 = 20;
 
+/// Where a row's topic stands: at most 16 rows of 135 bytes are before its end.
 #[derive(Clone, Copy, Default)]
-struct Row<'a> {
+struct Row {
     id: u32,
-    topic: &'a [u8],
+    start: u16,
+    end: u16,
 }
 
 pub struct Directory<'a> {
-    rows: [Row<'a>; MOST_ROWS],
+    bytes: &'a [u8],
+    rows: [Row; MOST_ROWS],
     count: usize,
 }
 
@@ -23,11 +26,14 @@ impl<'a> Directory<'a> {
         queues_len: usize,
     ) -> Option<Directory<'a>> {
         let mut read = Directory {
+            bytes: directory,
             rows: [Row::default(); MOST_ROWS],
             count: 0,
         };
-        let mut rest = directory;
-        while let Some((head, _)) = rest.split_first_chunk::<8>() {
+        let mut at = 0;
+        while at < directory.len() {
+            let rest = &directory[at..];
+            let head = rest.first_chunk::<8>()?;
             let size = usize::from(u16::from_le_bytes([head[0], head[1]]));
             let kind = u16::from_le_bytes([head[2], head[3]]);
             let id = u32::from_le_bytes([head[4], head[5], head[6], head[7]]);
@@ -36,20 +42,20 @@ impl<'a> Directory<'a> {
                 || kind != 1
                 || id >= 1 << 31
                 || read.count == MOST_ROWS
+                || read.row_of(id, &rest[8..size]).is_some()
             {
                 return None;
             }
-            let topic = &rest[8..size];
-            if read.row_of(id, topic).is_some() {
-                return None;
-            }
-            read.rows[read.count] = Row { id, topic };
+            read.rows[read.count] = Row {
+                id,
+                start: (at + 8) as u16,
+                end: (at + size) as u16,
+            };
             read.count += 1;
-            rest = &rest[size..];
+            at += size;
         }
-        let right = rest.is_empty()
-            && read.count != 0
-            && queues_len as u64 == read.count as u64 * queue_entries * ENTRY;
+        let right =
+            read.count != 0 && queues_len as u64 == read.count as u64 * queue_entries * ENTRY;
         right.then_some(read)
     }
 
@@ -60,8 +66,9 @@ impl<'a> Directory<'a> {
 
     #[inline(always)]
     pub fn row_of(&self, id: u32, topic: &[u8]) -> Option<usize> {
-        self.rows[..self.count]
-            .iter()
-            .position(|row| row.id == id && row.topic == topic)
+        self.rows[..self.count].iter().position(|row| {
+            row.id == id
+                && self.bytes.get(usize::from(row.start)..usize::from(row.end)) == Some(topic)
+        })
     }
 }
