@@ -41,22 +41,26 @@ pub fn is_name(name: &str) -> bool {
 
 /// All jobs, or the one that is named.
 pub fn run(effort: Effort, only: Option<&str>) {
-    let chosen = || {
-        JOBS.iter()
-            .filter(|(name, _)| only.is_none_or(|only| only == *name))
-    };
-    report::start_rows();
-    for (name, job) in chosen() {
-        if let Job::Rows(run) = job {
-            say(name);
-            run(effort, &mut |row| report::row(&row));
+    let mut rows_started = false;
+    let mut points_started = false;
+    for (name, job) in &JOBS {
+        if only.is_some_and(|only| only != *name) {
+            continue;
         }
-    }
-    report::start_points();
-    for (name, job) in chosen() {
-        if let Job::Points(run) = job {
-            say(name);
-            run(effort, &mut |point| report::point(&point));
+        say(name);
+        match job {
+            Job::Rows(run) => {
+                if !std::mem::replace(&mut rows_started, true) {
+                    report::start_rows();
+                }
+                run(effort, &mut |row| report::row(&row));
+            }
+            Job::Points(run) => {
+                if !std::mem::replace(&mut points_started, true) {
+                    report::start_points();
+                }
+                run(effort, &mut |point| report::point(&point));
+            }
         }
     }
 }

@@ -18,7 +18,7 @@ use std::arch::x86_64::{
 const RECORDS: usize = 16;
 
 /// Items whose hashes are kept; a record with more has them made again.
-const KEPT: usize = 8;
+const KEPT: usize = 4;
 
 /// Bytes looked at in one turn.
 const WIDTH: usize = 16;
@@ -29,41 +29,81 @@ struct Read<'a> {
     total: u64,
     is_record: bool,
     makes_entry: bool,
-    row: Option<usize>,
+    row: Option<u8>,
+    prefix: u32,
     queue_offset: u64,
     tag_code: u64,
     store_time: u64,
-    prefix: u32,
-    values: Values<'a>,
+    properties: &'a [u8],
     items: usize,
     kept: [(u32, u32); KEPT],
 }
 
-/// Calls `visit` with the place of each byte that `chosen` marks.
+/// Bytes that are looked for: one by one, or many at a time as a mask.
+trait Sought {
+    fn is(byte: u8) -> bool;
+    fn among(block: __m128i) -> __m128i;
+}
+
+/// Bytes 0, 1 and 2.
+struct Low;
+
+impl Sought for Low {
+    #[inline(always)]
+    fn is(byte: u8) -> bool {
+        byte <= 2
+    }
+
+    #[inline(always)]
+    fn among(block: __m128i) -> __m128i {
+        // SSE2 belongs to the baseline.
+        unsafe { _mm_cmpeq_epi8(_mm_min_epu8(block, _mm_set1_epi8(2)), block) }
+    }
+}
+
+struct Space;
+
+impl Sought for Space {
+    #[inline(always)]
+    fn is(byte: u8) -> bool {
+        byte == b' '
+    }
+
+    #[inline(always)]
+    fn among(block: __m128i) -> __m128i {
+        // SSE2 belongs to the baseline.
+        unsafe { _mm_cmpeq_epi8(block, _mm_set1_epi8(b' ' as i8)) }
+    }
+}
+
+/// The bytes that are looked for among the first ones, as many as are looked at in one turn: a bit for each.
 #[inline(always)]
-fn each(bytes: &[u8], chosen: impl Fn(__m128i) -> __m128i, mut visit: impl FnMut(usize)) {
-    let mut visit_in = |block: &[u8; WIDTH], from: usize, skip: usize| {
-        // SSE2 belongs to the baseline, and the block has as many bytes as are loaded.
-        let marks = unsafe { _mm_movemask_epi8(chosen(_mm_loadu_si128(block.as_ptr().cast()))) };
-        let mut left = marks as u32 & (u32::MAX << skip);
+fn marks<S: Sought>(bytes: &[u8]) -> u32 {
+    if let Some(block) = bytes.first_chunk::<WIDTH>() {
+        // The block has as many bytes as are loaded; SSE2 belongs to the baseline.
+        unsafe {
+            let block = _mm_loadu_si128(block.as_ptr().cast());
+            return _mm_movemask_epi8(S::among(block)) as u32;
+        }
+    }
+    let bits = bytes.iter().enumerate();
+    bits.fold(0, |marks, (i, byte)| marks | u32::from(S::is(*byte)) << i)
+}
+
+/// Calls `visit` with the place of each byte that is looked for.
+#[inline(always)]
+fn each<S: Sought>(bytes: &[u8], mut visit: impl FnMut(usize)) {
+    let last = bytes.len().saturating_sub(WIDTH);
+    let mut at = 0;
+    while at < bytes.len() {
+        // The last block ends with the bytes; what it has in common with the one before is not visited again.
+        let from = at.min(last);
+        let mut left = marks::<S>(&bytes[from..]) & (u32::MAX << (at - from));
         while left != 0 {
             visit(from + left.trailing_zeros() as usize);
             left &= left - 1;
         }
-    };
-    let (blocks, rest) = bytes.as_chunks::<WIDTH>();
-    for (i, block) in blocks.iter().enumerate() {
-        visit_in(block, i * WIDTH, 0);
-    }
-    if rest.is_empty() {
-        return;
-    }
-    if let Some(last) = bytes.last_chunk::<WIDTH>() {
-        visit_in(last, bytes.len() - WIDTH, WIDTH - rest.len());
-    } else {
-        let mut block = [0xFF; WIDTH];
-        block[..rest.len()].copy_from_slice(rest);
-        visit_in(&block, 0, 0);
+        at = from + WIDTH;
     }
 }
 
@@ -73,11 +113,7 @@ fn scan(properties: &[u8]) -> Values<'_> {
     let mut start = 0;
     let mut separator = 0;
     let mut separators = 0;
-    let low = |block| unsafe {
-        let two = _mm_set1_epi8(2);
-        _mm_cmpeq_epi8(_mm_min_epu8(block, two), block)
-    };
-    each(properties, low, |i| match properties[i] {
+    each::<Low>(properties, |i| match properties[i] {
         1 => {
             separators += 1;
             separator = i;
@@ -105,8 +141,7 @@ fn each_key<'a>(values: &Values<'a>, mut visit: impl FnMut(&'a [u8])) {
     }
     let keys = values.keys;
     let mut start = 0;
-    let space = |block| unsafe { _mm_cmpeq_epi8(block, _mm_set1_epi8(b' ' as i8)) };
-    each(keys, space, |i| {
+    each::<Space>(keys, |i| {
         if i > start {
             visit(&keys[start..i]);
         }
@@ -118,41 +153,38 @@ fn each_key<'a>(values: &Values<'a>, mut visit: impl FnMut(&'a [u8])) {
 }
 
 #[inline(always)]
-fn read_record<'a>(job: &Job<'a>, record: &Record<'a>) -> Read<'a> {
+fn read_record<'a>(job: &Job<'a>, record: &Record<'a>, read: &mut Read<'a>) {
     let head = record.head();
     let (makes_entry, makes_items) = duties(be32(head, 36));
-    let mut read = Read {
-        total: record.own.len() as u64,
-        is_record: true,
-        makes_entry,
-        row: None,
-        queue_offset: be64(head, 20),
-        tag_code: 0,
-        store_time: be64(head, 56),
-        prefix: 0,
-        values: scan(record.properties),
-        items: 0,
-        kept: [(0, 0); KEPT],
-    };
+    let values = scan(record.properties);
+    read.total = record.own.len() as u64;
+    read.is_record = true;
+    read.makes_entry = makes_entry;
+    read.queue_offset = be64(head, 20);
+    read.store_time = be64(head, 56);
+    read.properties = record.properties;
+    read.items = 0;
     if makes_entry {
-        read.row = job.directory.row_of(be32(head, 12), record.topic);
-        read.tag_code = hash::tag_code(read.values.tags);
+        let row = job.directory.row_of(be32(head, 12), record.topic);
+        read.row = row.map(|row| row as u8);
+        read.tag_code = hash::tag_code(values.tags);
     }
     if makes_items {
         let prefix = hash::of_topic(record.topic);
-        read.prefix = prefix;
-        each_key(&read.values, |key| {
-            if read.items < KEPT {
+        let mut items = 0;
+        each_key(&values, |key| {
+            if let Some(kept) = read.kept.get_mut(items) {
                 let hash = hash::of_key(prefix, key);
                 let slot = job.index.slot_of(hash);
                 // A fetch of a lent byte; it changes nothing.
                 unsafe { _mm_prefetch::<_MM_HINT_T0>(job.index.slot_address(slot).cast()) };
-                read.kept[read.items] = (hash, slot as u32);
+                *kept = (hash, slot as u32);
             }
-            read.items += 1;
+            items += 1;
         });
+        read.prefix = prefix;
+        read.items = items;
     }
-    read
 }
 
 /// The hashes and slots of a record's items.
@@ -162,7 +194,7 @@ fn items_of<'r>(job: &Job, read: &'r Read, more: &'r mut Vec<(u32, u32)>) -> &'r
         return &read.kept[..read.items];
     }
     more.clear();
-    each_key(&read.values, |key| {
+    each_key(&scan(read.properties), |key| {
         let hash = hash::of_key(read.prefix, key);
         more.push((hash, job.index.slot_of(hash) as u32));
     });
@@ -176,7 +208,7 @@ fn file(job: &mut Job, read: &Read, more: &mut Vec<(u32, u32)>) -> Result<(), u3
         return Ok(());
     }
     let row = if read.makes_entry {
-        Some(job.judge_entry(read.row, read.queue_offset)?)
+        Some(job.judge_entry(read.row.map(usize::from), read.queue_offset)?)
     } else {
         None
     };
@@ -222,12 +254,10 @@ fn run(job: &mut Job) -> (u32, u64) {
                     break;
                 }
                 Ok(Entry::Blank(rest)) => {
-                    *place = Read {
-                        total: rest,
-                        ..Read::default()
-                    }
+                    place.total = rest;
+                    place.is_record = false;
                 }
-                Ok(Entry::Record(record)) => *place = read_record(job, &record),
+                Ok(Entry::Record(record)) => read_record(job, &record, place),
             }
             read_position += place.total;
             read_steps += 1;

@@ -17,8 +17,8 @@ impl Geometry {
             && length != 0
             && length <= MAX_POSITION
             && b <= MAX_POSITION - length
-            && length % s == 0
-            && b % s == 0
+            && length.is_multiple_of(s)
+            && b.is_multiple_of(s)
     }
 
     /// Door check 2 of reading.

@@ -1,11 +1,11 @@
 //! The memory traffic of a dispatch, without its work: what every dispatch of these records has to read and write.
 
+use super::bytes::be32;
 use super::directory::Directory;
 use super::hash;
 use super::properties::{parts, Values};
-use super::record::{entry_at, Entry};
-use crate::plain::bytes::be32;
-use crate::plain::queue::ENTRY;
+use super::queue::ENTRY;
+use super::record::{entry_at, Entry, HEAD};
 use crate::store::{Filed, Log};
 
 const LINE: usize = 64;
@@ -68,7 +68,7 @@ impl Trace {
             let total = record.own.len() as u64;
             trace.records.push(Places {
                 head: position,
-                tail: position + (super::record::HEAD + record.body_len) as u64,
+                tail: position + (HEAD + record.body_len) as u64,
                 end: position + total,
                 entry: (row * filed.queue_entries as usize + counts[row]) as u32,
                 items: (trace.slots.len() - before) as u32,
@@ -96,7 +96,8 @@ impl Trace {
         let from = followed.record;
         let to = self.records.len().min(from + records);
         for places in &self.records[from..to] {
-            sum += touch(&log.bytes, places.head as usize, places.head as usize + 88);
+            let head = places.head as usize;
+            sum += touch(&log.bytes, head, head + HEAD);
             sum += touch(&log.bytes, places.tail as usize, places.end as usize);
             entries[places.entry as usize] = [1; ENTRY];
             let last = followed.item + places.items as usize;
