@@ -114,7 +114,7 @@ pub fn run(effort: Effort, put: &mut dyn FnMut(Point)) {
             context(1 << 30, one_row(), 1, 300_000, LARGEST),
         ),
         (
-            "smallest index, 16 rows of 135 bytes",
+            "smallest index, 16 rows, 15 of them of 135 bytes",
             context(1024, longest_rows(), 16, 1, SMALLEST),
         ),
     ];
@@ -133,7 +133,7 @@ pub fn run(effort: Effort, put: &mut dyn FnMut(Point)) {
     }
 }
 
-/// The largest directory: the record's queue, then 15 of the longest topic.
+/// A directory of 16 rows: the record's queue, then 15 of the longest topic.
 fn longest_rows() -> Vec<u8> {
     let mut rows = directory(1, TOPIC);
     rows.extend(directory(15, &[b't'; 127]));
