@@ -24,6 +24,8 @@ struct Context {
     wanted: u64,
     tag_code: Option<u64>,
     out: Vec<u64>,
+    /// How often a lap reads from each queue.
+    rounds: u64,
 }
 
 fn read_all(store: &Store, context: &mut Context, mut visit: impl FnMut((u32, u64), &[u64])) {
@@ -43,9 +45,11 @@ fn read_all(store: &Store, context: &mut Context, mut visit: impl FnMut((u32, u6
 fn side(store: &'static Store) -> impl Fn(&mut Context, &mut Laps) {
     move |context, laps| {
         laps.time(|| {
-            read_all(store, context, |_, out| {
-                black_box(out);
-            })
+            for _ in 0..context.rounds {
+                read_all(store, context, |_, out| {
+                    black_box(out);
+                });
+            }
         });
     }
 }
@@ -70,8 +74,9 @@ fn load(context: &mut Context, laps: &mut Laps) {
     };
     laps.time(|| {
         let (entries, _) = context.filed.queues.as_chunks::<20>();
-        for row in 0..QUEUES as usize {
-            let entries = &entries[row * region + FIRST as usize..][..wanted * times];
+        for row in 0..(QUEUES * context.rounds) as usize {
+            let first = row % QUEUES as usize * region + FIRST as usize;
+            let entries = &entries[first..][..wanted * times];
             for part in entries.chunks_exact(wanted) {
                 for (place, entry) in context.out.iter_mut().zip(part) {
                     *place = u64::from_ne_bytes(entry[at..at + 8].try_into().expect("8 bytes"));
@@ -97,12 +102,14 @@ pub fn run(effort: Effort, put: &mut dyn FnMut(Row)) {
         wanted: 0,
         tag_code: None,
         out: Vec::new(),
+        rounds: 0,
     };
     for wanted in [32, 1000] {
         for tag_code in [None, Some(TAG_CODE)] {
             context.wanted = wanted;
             context.tag_code = tag_code;
             context.out = vec![0; wanted as usize];
+            context.rounds = 2000 / wanted;
             put(measure(effort, &mut context));
         }
     }
@@ -118,11 +125,12 @@ fn measure(effort: Effort, context: &mut Context) -> Row {
     );
     assert!(results(&PLAIN, context) == expected, "queue reading");
     let times = interleave(
-        effort.batches(30_000),
+        effort.batches(6000),
         context,
         &[&side(&ARCHIVE), &side(&PLAIN), &load],
     );
-    let of_call = |time: f64| time / QUEUES as f64;
+    let calls = (QUEUES * context.rounds) as f64;
+    let of_call = |time: f64| time / calls;
     let which = match context.tag_code {
         None => "all entries",
         Some(_) => "one tag in 4",
