@@ -1,9 +1,9 @@
 //! The hash of a key, as the time that its bytes add to a query on an empty index.
 
-use crate::data::{index, mixed};
+use crate::data::{directory, filed, index, message, mixed, Keys};
 use crate::effort::Effort;
 use crate::report::Row;
-use crate::store::{Index, Range, Store, ARCHIVE, BYTEWISE, PLAIN};
+use crate::store::{Index, Log, Range, Store, ARCHIVE, BYTEWISE, PLAIN};
 use crate::timing::{interleave, Laps};
 use std::hint::black_box;
 
@@ -16,6 +16,14 @@ struct Context {
     out: Vec<u64>,
 }
 
+const TOPIC: &[u8] = b"T";
+
+const ALL_TIMES: Range = Range {
+    first_time: 0,
+    last_time: (1 << 48) - 1,
+    wanted: 1,
+};
+
 const RANGE: Range = Range {
     first_time: 0,
     last_time: 0,
@@ -27,25 +35,46 @@ fn side(store: &'static Store, length: usize) -> impl Fn(&mut Context, &mut Laps
         laps.time(|| {
             for _ in 0..QUERIES {
                 let key = black_box(&context.key[..length]);
-                black_box(store.query(&context.index, b"T", key, &RANGE, &mut context.out));
+                black_box(store.query(&context.index, TOPIC, key, &RANGE, &mut context.out));
             }
         });
     }
 }
 
-/// The hash itself is compared wherever keys are found: here, that each side answers.
+/// Each side finds the key in an index that has it, and nothing in the empty one.
 fn check(context: &mut Context, length: usize) {
+    let key = &context.key[..length];
+    let with_key = index_with(key);
     for store in [&ARCHIVE, &PLAIN, &BYTEWISE] {
-        let key = &context.key[..length];
-        let read = store.query(&context.index, b"T", key, &RANGE, &mut context.out);
-        assert_eq!(read, (0, [0, 0]), "a query on an empty index");
+        let found = store.query(&with_key, TOPIC, key, &ALL_TIMES, &mut context.out);
+        assert_eq!(found, (0, [1, 1]), "a query for a key");
+        let missed = store.query(&context.index, TOPIC, key, &RANGE, &mut context.out);
+        assert_eq!(missed, (0, [0, 0]), "a query on an empty index");
     }
+}
+
+/// The index of a log with one record, which has this key.
+fn index_with(key: &[u8]) -> Index {
+    let mut log = Log {
+        bytes: vec![0; 4096],
+        segment_size: 4096,
+    };
+    let mut record = message(0, Keys::Distinct, 0);
+    record.topic = TOPIC.to_vec();
+    record.properties = [b"KEYS\x01", key].concat();
+    let mut end = 0;
+    let appended = ARCHIVE.append(&mut log, &record, &mut end);
+    assert_eq!(appended, 0, "append of a record");
+    let mut filed = filed(directory(1, TOPIC), 1, 1, index(1, 2));
+    let dispatched = ARCHIVE.dispatch(&log, end, &mut filed, 1);
+    assert_eq!(dispatched, (9, 1), "a step");
+    filed.index
 }
 
 pub fn run(effort: Effort, put: &mut dyn FnMut(Row)) {
     let mut context = Context {
         index: index(1, 2),
-        key: (0..1024).map(|i| mixed(i) as u8).collect(),
+        key: (0..1024).map(|i| b'A' + (mixed(i) % 26) as u8).collect(),
         out: vec![0],
     };
     for length in [8, 16, 23, 32, 40, 100, 256, 1024] {
