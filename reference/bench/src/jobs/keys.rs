@@ -30,13 +30,15 @@ fn side(store: &'static Store) -> impl Fn(&mut Context, &mut Laps) {
 fn check(context: &mut Context) {
     let ended = dispatch(&ARCHIVE, context, &mut Laps::default());
     assert_eq!(ended.0, 0, "dispatch catches up");
-    let expected = context.filed.index.bytes.clone();
+    let progress = context.filed.progress;
+    let queues = context.filed.queues.clone();
+    let index = context.filed.index.bytes.clone();
+    context.filed.queues.fill(0);
     let same = dispatch(&PLAIN, context, &mut Laps::default());
     assert_eq!(same, ended, "answer and steps of dispatch");
-    assert!(
-        context.filed.index.bytes == expected,
-        "index after dispatch"
-    );
+    assert_eq!(context.filed.progress, progress, "progress of dispatch");
+    assert!(context.filed.queues == queues, "queues after dispatch");
+    assert!(context.filed.index.bytes == index, "index after dispatch");
 }
 
 pub fn run(effort: Effort, put: &mut dyn FnMut(Point)) {
