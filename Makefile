@@ -5,6 +5,7 @@
 #   make example                 builds and runs examples/store.c
 #   make compare COUNT=20000 SEED=1   the archive against the independent model
 #   make mutants                 the comparison against wrong models
+#   make bench                   the archive's times against fast plain Rust; BENCH='--short' or '--only JOB'
 #   make interface               header, example, installation and Rust bindings (tests/interface.sh)
 #
 # SWISTOPAL_LIB_DIR names another archive's directory, LISTER another lister: both must be there already.
@@ -15,6 +16,7 @@ DESTDIR ?=
 CFLAGS ?= -O2
 COUNT ?= 20000
 SEED ?= 1
+BENCH ?=
 
 built_lib_dir := $(CURDIR)/target/staticlib
 built_lister := target/bin/lister
@@ -25,7 +27,7 @@ export SWISTOPAL_LIB_DIR
 archive := $(SWISTOPAL_LIB_DIR)/libswistopal.a
 sources := crates.txt $(shell find crates -name '*.rt' -o -name '*.antt')
 
-.PHONY: all install example compare mutants interface
+.PHONY: all install example compare mutants bench interface
 all: $(archive)
 
 $(built_lib_dir)/libswistopal.a: $(sources)
@@ -68,6 +70,9 @@ compare: $(archive)
 
 mutants: $(archive)
 	reference/mutants.py
+
+bench: $(archive)
+	cargo run --quiet --profile measured --offline --manifest-path reference/Cargo.toml -p bench -- $(BENCH)
 
 interface: $(archive) $(LISTER)
 	tests/interface.sh

@@ -1,0 +1,104 @@
+//! Record reading, one record after the other.
+
+use crate::data::{written, Keys, Written};
+use crate::effort::Effort;
+use crate::report::Row;
+use crate::store::{Store, ARCHIVE, PLAIN};
+use crate::timing::{interleave, Laps, State, Sweep};
+use std::hint::black_box;
+
+/// Records of a lap: they fit into the second cache.
+const LAP: usize = 800;
+
+struct Context {
+    written: Written,
+    /// Where the records are that are read.
+    positions: Vec<u64>,
+    state: State,
+    sweep: Sweep,
+}
+
+fn side(store: &'static Store) -> impl Fn(&mut Context, &mut Laps) {
+    move |context, laps| {
+        context.state.prepare(&context.sweep);
+        let Written { log, end } = &context.written;
+        for positions in context.positions.chunks(LAP) {
+            laps.time(|| {
+                let mut out = [0; 17];
+                for position in positions {
+                    black_box(store.read_record(log, *position, *end, &mut out));
+                    black_box(&out);
+                }
+            });
+        }
+    }
+}
+
+/// As many bytes as the output has, from each record.
+fn load(context: &mut Context, laps: &mut Laps) {
+    context.state.prepare(&context.sweep);
+    let bytes = &context.written.log.bytes;
+    for positions in context.positions.chunks(LAP) {
+        laps.time(|| {
+            for position in positions {
+                let at = *position as usize;
+                let mut out = [0; 17 * 8];
+                out.copy_from_slice(&bytes[at..at + 17 * 8]);
+                black_box(&out);
+            }
+        });
+    }
+}
+
+/// What each side reads is the same; the records' positions.
+fn check(written: &Written) -> Vec<u64> {
+    let mut positions = Vec::new();
+    let mut position = 0;
+    while position < written.end {
+        let mut expected = [u64::MAX; 17];
+        let answer = ARCHIVE.read_record(&written.log, position, written.end, &mut expected);
+        assert_eq!(answer, 0, "a record or blank that reads");
+        let mut read = [0; 17];
+        let same = PLAIN.read_record(&written.log, position, written.end, &mut read);
+        assert_eq!((same, read), (answer, expected), "record reading");
+        if read[0] == 1 {
+            positions.push(position);
+        }
+        position += read[1];
+    }
+    positions
+}
+
+pub fn run(effort: Effort, put: &mut dyn FnMut(Row)) {
+    let written = written(effort.records(300_000), 8, Keys::Distinct);
+    let positions = check(&written);
+    let mut context = Context {
+        written,
+        positions: Vec::new(),
+        state: State::Warm,
+        sweep: Sweep::new(),
+    };
+    for state in State::BOTH {
+        let (records, batches) = match state {
+            State::Warm => (LAP, effort.batches(6000)),
+            State::Cold => (positions.len(), effort.batches(15)),
+        };
+        context.state = state;
+        context.positions = positions[..records].to_vec();
+        let times = interleave(
+            batches,
+            &mut context,
+            &[&side(&ARCHIVE), &side(&PLAIN), &load],
+        );
+        let of_record = |time: f64| time / records as f64;
+        put(Row {
+            job: "record reading".to_string(),
+            state: format!("{}; a record of about 300 bytes", state.name()),
+            archive: of_record(times[0]),
+            rust: of_record(times[1]),
+            further: None,
+            limit: Some(of_record(times[2])),
+            target: Some(1.0),
+        });
+    }
+}

@@ -1,0 +1,320 @@
+//! Dispatch that reads some records ahead, so that the cache misses of their slots overlap, and that looks at 16 bytes of
+//! the properties at a time. Reading ahead changes no byte and no answer: the log is only read, and each record is judged
+//! in its turn.
+
+use super::answer;
+use super::bytes::{be32, be64};
+use super::dispatch::{call, duties, Job, Lent};
+use super::geometry::Geometry;
+use super::hash;
+use super::properties::Values;
+use super::record::{Entry, Record};
+use std::arch::x86_64::{
+    __m128i, _mm_cmpeq_epi8, _mm_loadu_si128, _mm_min_epu8, _mm_movemask_epi8, _mm_prefetch,
+    _mm_set1_epi8, _MM_HINT_T0,
+};
+
+/// Records read before the first of them is filed.
+const RECORDS: usize = 16;
+
+/// Items whose hashes are kept; a record with more has them made again.
+const KEPT: usize = 4;
+
+/// Bytes looked at in one turn.
+const WIDTH: usize = 16;
+
+/// A record or blank that was read.
+#[derive(Clone, Copy, Default)]
+struct Read<'a> {
+    total: u64,
+    is_record: bool,
+    makes_entry: bool,
+    row: Option<u8>,
+    prefix: u32,
+    queue_offset: u64,
+    tag_code: u64,
+    store_time: u64,
+    properties: &'a [u8],
+    items: usize,
+    kept: [(u32, u32); KEPT],
+}
+
+/// Bytes that are looked for: one by one, or many at a time as a mask.
+trait Sought {
+    fn is(byte: u8) -> bool;
+    fn among(block: __m128i) -> __m128i;
+}
+
+/// Bytes 0, 1 and 2.
+struct Low;
+
+impl Sought for Low {
+    #[inline(always)]
+    fn is(byte: u8) -> bool {
+        byte <= 2
+    }
+
+    #[inline(always)]
+    fn among(block: __m128i) -> __m128i {
+        // SSE2 belongs to the baseline.
+        unsafe { _mm_cmpeq_epi8(_mm_min_epu8(block, _mm_set1_epi8(2)), block) }
+    }
+}
+
+struct Space;
+
+impl Sought for Space {
+    #[inline(always)]
+    fn is(byte: u8) -> bool {
+        byte == b' '
+    }
+
+    #[inline(always)]
+    fn among(block: __m128i) -> __m128i {
+        // SSE2 belongs to the baseline.
+        unsafe { _mm_cmpeq_epi8(block, _mm_set1_epi8(b' ' as i8)) }
+    }
+}
+
+/// The bytes that are looked for among the first ones, as many as are looked at in one turn: a bit for each.
+#[inline(always)]
+fn marks<S: Sought>(bytes: &[u8]) -> u32 {
+    if let Some(block) = bytes.first_chunk::<WIDTH>() {
+        // The block has as many bytes as are loaded; SSE2 belongs to the baseline.
+        unsafe {
+            let block = _mm_loadu_si128(block.as_ptr().cast());
+            return _mm_movemask_epi8(S::among(block)) as u32;
+        }
+    }
+    let bits = bytes.iter().enumerate();
+    bits.fold(0, |marks, (i, byte)| marks | u32::from(S::is(*byte)) << i)
+}
+
+/// Calls `visit` with the place of each byte that is looked for.
+#[inline(always)]
+fn each<S: Sought>(bytes: &[u8], mut visit: impl FnMut(usize)) {
+    let last = bytes.len().saturating_sub(WIDTH);
+    let mut at = 0;
+    while at < bytes.len() {
+        // The last block ends with the bytes; what it has in common with the one before is not visited again.
+        let from = at.min(last);
+        let mut left = marks::<S>(&bytes[from..]) & (u32::MAX << (at - from));
+        while left != 0 {
+            visit(from + left.trailing_zeros() as usize);
+            left &= left - 1;
+        }
+        at = from + WIDTH;
+    }
+}
+
+#[inline(always)]
+fn scan(properties: &[u8]) -> Values<'_> {
+    let mut values = Values::default();
+    let mut start = 0;
+    let mut separator = 0;
+    let mut separators = 0;
+    each::<Low>(properties, |i| match properties[i] {
+        1 => {
+            separators += 1;
+            separator = i;
+        }
+        2 => {
+            if separators == 1 {
+                values.note(properties, start, separator, i);
+            }
+            start = i + 1;
+            separators = 0;
+        }
+        _ => {}
+    });
+    if separators == 1 {
+        values.note(properties, start, separator, properties.len());
+    }
+    values
+}
+
+/// Calls `visit` with the unique key and each part of KEYS.
+#[inline(always)]
+fn each_key<'a>(values: &Values<'a>, mut visit: impl FnMut(&'a [u8])) {
+    if !values.unique_key.is_empty() {
+        visit(values.unique_key);
+    }
+    let keys = values.keys;
+    let mut start = 0;
+    each::<Space>(keys, |i| {
+        if i > start {
+            visit(&keys[start..i]);
+        }
+        start = i + 1;
+    });
+    if keys.len() > start {
+        visit(&keys[start..]);
+    }
+}
+
+#[inline(always)]
+fn read_record<'a>(job: &Job<'a>, record: &Record<'a>, read: &mut Read<'a>) {
+    let head = record.head();
+    let (makes_entry, makes_items) = duties(be32(head, 36));
+    let values = scan(record.properties);
+    read.total = record.own.len() as u64;
+    read.is_record = true;
+    read.makes_entry = makes_entry;
+    read.queue_offset = be64(head, 20);
+    read.store_time = be64(head, 56);
+    read.properties = record.properties;
+    read.items = 0;
+    if makes_entry {
+        let row = job.directory.row_of(be32(head, 12), record.topic);
+        read.row = row.map(|row| row as u8);
+        read.tag_code = hash::tag_code(values.tags);
+    }
+    if makes_items {
+        let prefix = hash::of_topic(record.topic);
+        let mut items = 0;
+        each_key(&values, |key| {
+            if let Some(kept) = read.kept.get_mut(items) {
+                let hash = hash::of_key(prefix, key);
+                let slot = job.index.slot_of(hash);
+                // A fetch of a lent byte; it changes nothing.
+                unsafe { _mm_prefetch::<_MM_HINT_T0>(job.index.slot_address(slot).cast()) };
+                *kept = (hash, slot as u32);
+            }
+            items += 1;
+        });
+        read.prefix = prefix;
+        read.items = items;
+    }
+}
+
+/// The hashes and slots of a record's items.
+#[inline(always)]
+fn items_of<'r>(job: &Job, read: &'r Read, more: &'r mut Vec<(u32, u32)>) -> &'r [(u32, u32)] {
+    if read.items <= KEPT {
+        return &read.kept[..read.items];
+    }
+    more.clear();
+    each_key(&scan(read.properties), |key| {
+        let hash = hash::of_key(read.prefix, key);
+        more.push((hash, job.index.slot_of(hash) as u32));
+    });
+    more
+}
+
+/// Rules 6 and 7 on what was read, then entry and items.
+#[inline(always)]
+fn file(job: &mut Job, read: &Read, more: &mut Vec<(u32, u32)>) -> Result<(), u32> {
+    if !read.is_record {
+        return Ok(());
+    }
+    let row = if read.makes_entry {
+        Some(job.judge_entry(read.row.map(usize::from), read.queue_offset)?)
+    } else {
+        None
+    };
+    let items = items_of(job, read, more);
+    if !items.is_empty() {
+        job.index.judge(job.position, items.len())?;
+        if items
+            .iter()
+            .any(|(_, slot)| job.index.is_bad(*slot as usize))
+        {
+            return Err(answer::CHAIN_BROKEN);
+        }
+    }
+    if let Some(row) = row {
+        job.enter(row, job.position, read.total as u32, read.tag_code);
+    }
+    if !items.is_empty() {
+        let items = items.iter().map(|(hash, slot)| (*hash, *slot as usize));
+        job.index.put_all(job.position, read.store_time, items);
+    }
+    Ok(())
+}
+
+/// Steps until one is stopped: the answer and the steps done.
+#[inline(always)]
+fn run(job: &mut Job) -> (u32, u64) {
+    let mut ring = [Read::default(); RECORDS];
+    let mut more = Vec::new();
+    let mut stop = None;
+    let mut read_position = job.position;
+    let mut read_steps = 0;
+    let mut steps: u64 = 0;
+    loop {
+        while stop.is_none() && read_steps - steps < RECORDS as u64 {
+            if read_steps == job.budget {
+                stop = Some(answer::BUDGET_SPENT);
+                break;
+            }
+            let place = &mut ring[read_steps as usize % RECORDS];
+            match job.entry(read_position) {
+                Err(answer) => {
+                    stop = Some(answer);
+                    break;
+                }
+                Ok(Entry::Blank(rest)) => {
+                    place.total = rest;
+                    place.is_record = false;
+                }
+                Ok(Entry::Record(record)) => read_record(job, &record, place),
+            }
+            read_position += place.total;
+            read_steps += 1;
+        }
+        if steps == read_steps {
+            return (stop.unwrap_or(answer::DONE), steps);
+        }
+        let read = &ring[steps as usize % RECORDS];
+        if let Err(answer) = file(job, read, &mut more) {
+            return (answer, steps);
+        }
+        job.position += read.total;
+        steps += 1;
+    }
+}
+
+/// `swistopal_dispatch`.
+///
+/// # Safety
+/// As the C interface asks.
+pub unsafe extern "C" fn dispatch(
+    log: *const u8,
+    log_len: usize,
+    segment_size: u64,
+    first_position: u64,
+    readable_end: u64,
+    directory: *const u8,
+    directory_len: usize,
+    queue_entries: u64,
+    queues: *mut u8,
+    queues_len: usize,
+    slot_count: u64,
+    item_count: u64,
+    index: *mut u8,
+    index_len: usize,
+    budget: u64,
+    progress: *mut u64,
+    steps: *mut u64,
+) -> u32 {
+    call(
+        Lent {
+            log: std::slice::from_raw_parts(log, log_len),
+            geometry: Geometry {
+                segment_size,
+                first_position,
+            },
+            readable_end,
+            directory: std::slice::from_raw_parts(directory, directory_len),
+            queue_entries,
+            queues: std::slice::from_raw_parts_mut(queues, queues_len),
+            slot_count,
+            item_count,
+            index: std::slice::from_raw_parts_mut(index, index_len),
+            budget,
+        },
+        &mut *progress.cast::<[u64; 17]>(),
+        &mut *steps,
+        run,
+    )
+}
