@@ -17,11 +17,12 @@ const LONG: With = With {
 pub fn run(args: &Args) -> Result<Outcome, Failure> {
     let log = Log::open(args)?;
     let from = args.number("--from")?.map_or(log.first(), LogPosition);
-    if from < log.first() || log.entry(from) == Err(Answer::BadPosition) {
+    if !(log.first()..=log.end()).contains(&from) {
         return usage(format!(
-            "--from {}: the log starts at {} and ends before that",
+            "--from {}: the log's files go from {} to {}",
             from.0,
-            log.first().0
+            log.first().0,
+            log.end().0
         ));
     }
     let limit = args.number("--limit")?.unwrap_or(u64::MAX);

@@ -29,7 +29,6 @@ pub struct Log {
     bytes: Bytes,
     pub geometry: LogGeometry,
     pub segments: u64,
-    /// Where the files end, or what `--end` says.
     end: LogPosition,
     end_given: bool,
     /// Files of a wrong length, missing ones: what the log lacks though what is lent may be sound.
@@ -126,6 +125,11 @@ impl Log {
 
     pub fn first(&self) -> LogPosition {
         self.geometry.first_position
+    }
+
+    /// Where the files end, or what `--end` says.
+    pub fn end(&self) -> LogPosition {
+        self.end
     }
 
     /// What stands at a position.

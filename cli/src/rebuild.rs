@@ -2,7 +2,7 @@
 
 use crate::args::Args;
 use crate::failure::{fault, usage, Failure, Outcome};
-use crate::journal::State;
+use crate::journal::{Stage, State};
 use crate::log::{self, End, Log};
 use crate::meter::Meter;
 use crate::plan::{Plan, Sizes};
@@ -42,6 +42,13 @@ pub fn run(args: &Args) -> Result<Outcome, Failure> {
             counted(start.steps, "step", "steps")
         ));
     }
+    if from > log.end() {
+        return fault(format!(
+            "the log now ends at {}, before the {} that was reached; --restart begins anew",
+            log.end().0,
+            from.0
+        ));
+    }
     let end = log.walk(from, |_, _| Ok(true))?;
     if !end.sound() {
         note(&format!(
@@ -49,7 +56,13 @@ pub fn run(args: &Args) -> Result<Outcome, Failure> {
             end.sentence()
         ));
     }
-    let done = dispatch_all(&mut work, &log, &end, budget, batch)?;
+    let done = match start.stage {
+        Stage::Building => dispatch_all(&mut work, &log, &end, budget, batch)?,
+        Stage::Placing => Dispatched {
+            stop: Answer::Done,
+            steps: 0,
+        },
+    };
     let caught_up = done.stop == Answer::Done;
     let (plan, state, items) = (work.plan.clone(), work.state, work.items()?);
     // First the files, then the report: nobody may be reading it.
@@ -116,12 +129,6 @@ fn dispatch_all(
     budget: u64,
     batch: u64,
 ) -> Result<Dispatched, Failure> {
-    if work.state.progress.position > end.position {
-        return fault(format!(
-            "the log now ends at {}, before the {} that were reached; --restart begins anew",
-            end.position.0, work.state.progress.position.0
-        ));
-    }
     let mut meter = Meter::new(work.state.progress.position.0, end.position.0);
     let mut steps = 0;
     loop {

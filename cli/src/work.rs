@@ -36,7 +36,8 @@ impl Claim {
         if !folder.exists() {
             return Ok(None);
         }
-        if !folder.join("lock").exists() {
+        // Ours has the lock, or nothing if it was cut right at its beginning.
+        if !folder.join("lock").exists() && !empty(&folder) {
             return usage(format!(
                 "{}: it is not the work folder of a rebuild; move it away",
                 folder.display()
@@ -354,8 +355,9 @@ impl Work {
             let bytes = &queues[number * region..number * region + in_use];
             let written = file.write_all_at(bytes, 0).and_then(|()| file.sync_all());
             written.at("write", &path)?;
-            sync_folder(&folder)?;
-            sync_folder(folder.parent().unwrap_or(&folder))?;
+            for folder in folder.ancestors().take(2) {
+                sync_folder(folder)?;
+            }
         }
         sync_folder(&consumequeue)?;
         sync_folder(&self.parts.store)
@@ -395,13 +397,11 @@ fn patch_index(journal: &mut Writer, index: &[u8], slots: u64, used_before: u64)
         .collect();
     changed.sort_unstable();
     changed.dedup();
-    for slot in changed {
-        let place = slot_place(slot);
-        journal.patch(
-            Target::Index,
-            place,
-            &index[place as usize..place as usize + 4],
-        )?;
+    // Slots close to each other share a patch; those between them keep their bytes.
+    for near in changed.chunk_by(|slot, next| next - slot <= 4) {
+        let (first, last) = (near[0], near[near.len() - 1]);
+        let (from, to) = (slot_place(first), slot_place(last + 1));
+        journal.patch(Target::Index, from, &index[from as usize..to as usize])?;
     }
     Ok(())
 }
@@ -429,11 +429,14 @@ fn zeros(path: &Path, length: usize) -> Result<File, Failure> {
     Ok(file)
 }
 
+fn empty(folder: &Path) -> bool {
+    fs::read_dir(folder).is_ok_and(|mut entries| entries.next().is_none())
+}
+
 /// A result's place in the store, if something is there.
 pub fn occupied(store: &Path, name: &str) -> Option<PathBuf> {
     let place = store.join(name);
-    let empty = fs::read_dir(&place).is_ok_and(|mut entries| entries.next().is_none());
-    (place.symlink_metadata().is_ok() && !empty).then_some(place)
+    (place.symlink_metadata().is_ok() && !empty(&place)).then_some(place)
 }
 
 pub fn results_in_the_way(store: &Path) -> Option<PathBuf> {
@@ -454,7 +457,10 @@ pub fn remove_finished(store: &Path) -> Result<(), Failure> {
     Ok(())
 }
 
+/// Waits until the disk has a folder's names. Some file systems know no such wait for folders.
 fn sync_folder(folder: &Path) -> Result<(), Failure> {
-    let synced = File::open(folder).and_then(|folder| folder.sync_all());
-    synced.at("write", folder)
+    match File::open(folder).and_then(|folder| folder.sync_all()) {
+        Err(error) if error.kind() == io::ErrorKind::InvalidInput => Ok(()),
+        synced => synced.at("write", folder),
+    }
 }

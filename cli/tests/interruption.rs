@@ -1,0 +1,223 @@
+//! A rebuild that is cut anywhere goes on to the same bytes.
+
+mod common;
+
+use common::*;
+use std::collections::BTreeMap;
+use std::fs;
+use std::io::Read;
+use std::path::{Path, PathBuf};
+use std::process::{Command, Stdio};
+use std::thread::sleep;
+use std::time::Duration;
+
+const KILLS: u32 = 200;
+
+/// The same numbers each time; when a process dies is chance enough.
+struct Chance(u64);
+
+impl Chance {
+    fn below(&mut self, limit: u64) -> u64 {
+        self.0 ^= self.0 << 13;
+        self.0 ^= self.0 >> 7;
+        self.0 ^= self.0 << 17;
+        self.0 % limit
+    }
+}
+
+type Files = BTreeMap<PathBuf, Vec<u8>>;
+
+fn results(store: &Path) -> [Files; 2] {
+    [
+        files(&store.join("consumequeue")),
+        files(&store.join("index")),
+    ]
+}
+
+#[test]
+fn killed_at_random_moments() {
+    let folder = Folder::new("killed");
+    let whole = built(&folder, "whole");
+    let (log, expected) = (files(&whole.join("commitlog")), results(&whole));
+    let store = folder.join("store");
+    tool("demo", &store, &[]).is(0, "");
+    let mut chance = Chance(20_260_302);
+    let (mut kills, mut rebuilds, mut resumed) = (0, 0, 0);
+    let mut during_placing = 0;
+    while kills < KILLS || rebuilds == 0 {
+        let batch = (1 + chance.below(60)).to_string();
+        let mut child = Command::new(TOOL)
+            .arg("rebuild")
+            .arg(&store)
+            .args(SMALL)
+            .args(["--batch", &batch, "--force"])
+            .stdout(Stdio::null())
+            .stderr(Stdio::piped())
+            .spawn()
+            .unwrap();
+        if kills < KILLS {
+            // Mostly short, sometimes long enough for the last part.
+            let longest = 20_000 << chance.below(5);
+            sleep(Duration::from_micros(chance.below(longest)));
+        } else {
+            child.wait().unwrap();
+        }
+        match child.try_wait().unwrap() {
+            Some(status) => {
+                // It was quicker: the results are in place. Begin anew from the log alone.
+                let mut said = String::new();
+                child
+                    .stderr
+                    .take()
+                    .unwrap()
+                    .read_to_string(&mut said)
+                    .unwrap();
+                assert!(status.success(), "{said}");
+                assert_eq!(results(&store), expected);
+                assert!(!store.join("swistopal.rebuild").exists());
+                fs::remove_dir_all(store.join("consumequeue")).unwrap();
+                fs::remove_dir_all(store.join("index")).unwrap();
+                rebuilds += 1;
+            }
+            None => {
+                child.kill().unwrap();
+                child.wait().unwrap();
+                kills += 1;
+                resumed += u32::from(store.join("swistopal.rebuild/journal").exists());
+                during_placing +=
+                    u32::from(store.join("swistopal.rebuild/store/consumequeue").exists());
+            }
+        }
+    }
+    println!("{kills} kills, {resumed} with a journal, {during_placing} with results on their way; {rebuilds} rebuilds");
+    tool("rebuild", &store, &[&SMALL[..], &["--force"]].concat()).is(0, "stop      0");
+    assert_eq!(results(&store), expected);
+    assert_eq!(files(&store.join("commitlog")), log);
+    tool("check", &store, &[]).is(0, "nothing: the store is sound");
+    assert!(resumed > KILLS / 4);
+}
+
+/// After a power cut any pages of the work files may be old ones while the journal is the new one.
+#[test]
+fn pages_that_never_reached_the_disk() {
+    let folder = Folder::new("pages");
+    let whole = built(&folder, "whole");
+    let expected = results(&whole);
+    let store = folder.join("store");
+    tool("demo", &store, &[]).is(0, "");
+    let mut chance = Chance(7);
+    let part = |steps: u64| {
+        let steps = steps.to_string();
+        tool(
+            "rebuild",
+            &store,
+            &[&SMALL[..], &["--budget", &steps]].concat(),
+        )
+        .is(0, "stop      9");
+        files(&store.join("swistopal.rebuild"))
+    };
+    let mut before = part(1);
+    for _ in 0..12 {
+        let after = part(1 + chance.below(40));
+        for (name, new) in &after {
+            let old = &before[name];
+            let path = store.join("swistopal.rebuild").join(name);
+            if name == Path::new("journal") {
+                // A next journal was begun and is not whole.
+                let cut = chance.below(new.len() as u64) as usize;
+                fs::write(path.with_extension("part"), &new[..cut]).unwrap();
+            } else if new.len() == old.len() {
+                let mut mixed = new.clone();
+                for (new, old) in mixed.chunks_mut(512).zip(old.chunks(512)) {
+                    if chance.below(2) == 0 {
+                        new.copy_from_slice(old);
+                    }
+                }
+                fs::write(path, mixed).unwrap();
+            }
+        }
+        // What the journal had promised stands again before the next step.
+        part(0);
+        for name in ["queues", "journal"] {
+            let path = store.join("swistopal.rebuild").join(name);
+            assert_eq!(fs::read(path).unwrap(), after[Path::new(name)]);
+        }
+        let _ = fs::remove_file(store.join("swistopal.rebuild/journal.part"));
+        before = after;
+    }
+    tool("rebuild", &store, &[]).is(0, "stop      0");
+    assert_eq!(results(&store), expected);
+}
+
+/// Results being moved: each of them may be in place already, and what `--force` replaces may be put aside already.
+#[test]
+fn cut_while_results_are_placed() {
+    let folder = Folder::new("placing");
+    let whole = built(&folder, "whole");
+    let expected = results(&whole);
+    let force = [&SMALL[..], &["--force"]].concat();
+    for moved in 0..=4 {
+        for replacing in [false, true] {
+            let store = folder.join(&format!("{moved}-{replacing}"));
+            tool("demo", &store, &[]).is(0, "");
+            if replacing {
+                let other = ["--entries", "100", "--slots", "1", "--items", "1300"];
+                tool("rebuild", &store, &other).is(0, "stop      0");
+            }
+            let all_steps = [&force[..], &["--budget", "439"]].concat();
+            tool("rebuild", &store, &all_steps).is(0, "stop      9");
+            let work = store.join("swistopal.rebuild");
+            copy(
+                &whole.join("consumequeue"),
+                &work.join("store/consumequeue"),
+            );
+            edit_journal(&store, |bytes| {
+                bytes[15] = 1;
+                bytes.truncate(8 + 3 * 8 + 16 * 8);
+                bytes.push(0);
+            });
+            // In the order of the rebuild: aside, into place, for queues and then for the index.
+            for step in 0..moved {
+                let name = ["consumequeue", "index"][step / 2];
+                if step % 2 == 1 {
+                    fs::rename(work.join("store").join(name), store.join(name)).unwrap();
+                } else if replacing {
+                    fs::create_dir_all(work.join("old")).unwrap();
+                    fs::rename(store.join(name), work.join("old").join(name)).unwrap();
+                }
+            }
+            tool("rebuild", &store, &force).is(0, "steps     0, 439 in all");
+            assert_eq!(results(&store), expected);
+            assert_eq!(fs::read_dir(&store).unwrap().count(), 3);
+        }
+    }
+}
+
+#[test]
+fn cut_at_the_beginning_and_at_the_end() {
+    let folder = Folder::new("ends");
+    let store = built(&folder, "store");
+    let expected = results(&store);
+    let force = [&SMALL[..], &["--force"]].concat();
+    // Cut last of all: only a folder is left to be removed.
+    fs::create_dir_all(store.join("swistopal.rebuild.done/store")).unwrap();
+    tool("rebuild", &store, &force).is(0, "stop      0");
+    assert!(!store.join("swistopal.rebuild.done").exists());
+    assert_eq!(results(&store), expected);
+    // Cut first of all: a folder without a lock.
+    fs::create_dir(store.join("swistopal.rebuild")).unwrap();
+    tool("rebuild", &store, &force).is(0, "stop      0");
+    assert_eq!(results(&store), expected);
+    // Cut before the plan was written: nothing of it counts.
+    fs::create_dir_all(store.join("swistopal.rebuild/store/index")).unwrap();
+    for name in [
+        "lock",
+        "queues",
+        "store/index/20260302055800842",
+        "plan.part",
+    ] {
+        fs::write(store.join("swistopal.rebuild").join(name), "part").unwrap();
+    }
+    tool("rebuild", &store, &force).is(0, "stop      0");
+    assert_eq!(results(&store), expected);
+}
