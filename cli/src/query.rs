@@ -28,7 +28,6 @@ struct Found<'a> {
 struct Search<'a> {
     found: Vec<Found<'a>>,
     same_hash_only: u64,
-    other_time: u64,
     items_read: u64,
     faults: Vec<String>,
 }
@@ -160,7 +159,6 @@ impl<'a> Search<'a> {
             self.found.append(&mut once.found);
             self.faults.append(&mut once.faults);
             self.same_hash_only += once.same_hash_only;
-            self.other_time += once.other_time;
             self.items_read += queried.items_read;
             return Ok(());
         }
@@ -188,9 +186,7 @@ impl<'a> Search<'a> {
                             .any(|key| key == question.key);
                     if !carries {
                         self.same_hash_only += 1;
-                    } else if !(first_time..=last_time).contains(&message.store_time) {
-                        self.other_time += 1;
-                    } else {
+                    } else if (first_time..=last_time).contains(&message.store_time) {
                         self.found.push(Found {
                             position,
                             length,

@@ -41,6 +41,80 @@ fn every_answer_has_its_sentence_in_the_help() {
     }
 }
 
+/// The options in a text, each once, in order.
+fn options(text: &str) -> Vec<String> {
+    let mut found: Vec<String> = text
+        .split(|c: char| !c.is_ascii_lowercase() && c != '-')
+        .filter(|word| word.starts_with("--") && word.len() > 2)
+        .map(String::from)
+        .collect();
+    found.sort();
+    found.dedup();
+    found
+}
+
+#[test]
+fn man_page_and_completion_have_every_option() {
+    let man = include_str!("../swistopal.1").replace("\\-", "-");
+    let completion = include_str!("../completion.bash");
+    for command in ["demo", "list", "rebuild", "query", "queue", "check"] {
+        let mut known = options(&bare(&[command, "--help"]).out);
+        for option in &known {
+            assert!(
+                options(&man).contains(option),
+                "{option} is not in the man page"
+            );
+            // Options are taken: what the tool says is not that there is no such one.
+            let said = bare(&[command, "/nowhere/at/all", option]).err;
+            assert!(!said.contains("no such option"), "{said}");
+        }
+        known.push(String::from("--help"));
+        known.sort();
+        let line = format!("        {command}) options=");
+        let line = completion.lines().find(|text| text.starts_with(&line));
+        assert_eq!(
+            options(line.expect("a line for the command")),
+            known,
+            "{command}"
+        );
+    }
+    for answer in swistopal::Answer::ALL {
+        let line = format!("\n{:>2}  {answer}\n", answer.number());
+        assert!(man.contains(&line), "{line}");
+    }
+}
+
+#[test]
+fn completion_completes() {
+    let folder = Folder::new("completion");
+    let store = built(&folder, "store");
+    fs::create_dir(store.join("consumequeue/$(touch pwned) x")).unwrap();
+    let script = concat!(env!("CARGO_MANIFEST_DIR"), "/completion.bash");
+    let complete = |words: &[&str]| {
+        let call = "source \"$1\"; shift; COMP_WORDS=(\"$@\"); COMP_CWORD=$(($# - 1)); _swistopal; printf '%s\\n' \"${COMPREPLY[@]}\"";
+        let output = std::process::Command::new("bash")
+            .args(["-c", call, "bash", script, "swistopal"])
+            .args(words)
+            .current_dir(&folder.0)
+            .output()
+            .unwrap();
+        String::from_utf8(output.stdout).unwrap()
+    };
+    assert_eq!(complete(&["que"]), "query\nqueue\n");
+    assert_eq!(complete(&["query", "st"]), "store\n");
+    assert_eq!(complete(&["query", "store", "--fr"]), "--from\n");
+    assert_eq!(
+        complete(&["query", "store", "--topic", "SORTER_T"]),
+        "SORTER_TRIM\n"
+    );
+    assert_eq!(
+        complete(&["query", "store", "--topic", "$"]),
+        "\\$\\(touch\\ pwned\\)\\ x\n"
+    );
+    assert_eq!(complete(&["query", "store", "--key", "P"]), "\n");
+    assert!(!folder.join("pwned").exists());
+}
+
 #[test]
 fn huge_and_bad_numbers() {
     let folder = Folder::new("numbers");
