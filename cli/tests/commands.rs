@@ -411,6 +411,17 @@ fn query_tells_keys_of_the_same_hash_apart() {
     assert_eq!(positions[1..], [99, 0]);
     tool("query", &store, &["--topic", "T", "--key", "BB"])
         .is(0, "10 records left out: another key with the same hash");
+
+    // Topics of the same hash, too.
+    let topics = folder.join("topics");
+    made(&topics, 0, 8192, 4, |position, number| {
+        let topic = [b"Aa", b"BB"][number as usize % 2];
+        record(position, topic, (0, number / 2), 10_000, b"KEYS\x01k")
+    });
+    tool("rebuild", &topics, &SMALL).is(0, "");
+    tool("query", &topics, &["--topic", "Aa", "--key", "k"])
+        .is(0, "2 records of topic Aa")
+        .is(0, "2 records left out");
 }
 
 #[test]

@@ -7,7 +7,7 @@ use std::collections::BTreeMap;
 use std::fs;
 use std::io::Read;
 use std::path::{Path, PathBuf};
-use std::process::{Command, Stdio};
+use std::process::{Child, Command, Stdio};
 use std::thread::sleep;
 use std::time::Duration;
 
@@ -34,6 +34,18 @@ fn results(store: &Path) -> [Files; 2] {
     ]
 }
 
+fn begin(store: &Path, batch: &str) -> Child {
+    Command::new(TOOL)
+        .arg("rebuild")
+        .arg(store)
+        .args(SMALL)
+        .args(["--batch", batch, "--force"])
+        .stdout(Stdio::null())
+        .stderr(Stdio::piped())
+        .spawn()
+        .unwrap()
+}
+
 #[test]
 fn killed_at_random_moments() {
     let folder = Folder::new("killed");
@@ -46,15 +58,7 @@ fn killed_at_random_moments() {
     let mut during_placing = 0;
     while kills < KILLS || rebuilds == 0 {
         let batch = (1 + chance.below(60)).to_string();
-        let mut child = Command::new(TOOL)
-            .arg("rebuild")
-            .arg(&store)
-            .args(SMALL)
-            .args(["--batch", &batch, "--force"])
-            .stdout(Stdio::null())
-            .stderr(Stdio::piped())
-            .spawn()
-            .unwrap();
+        let mut child = begin(&store, &batch);
         if kills < KILLS {
             // Mostly short, sometimes long enough for the last part.
             let longest = 20_000 << chance.below(5);
@@ -95,6 +99,54 @@ fn killed_at_random_moments() {
     assert_eq!(files(&store.join("commitlog")), log);
     tool("check", &store, &[]).is(0, "nothing: the store is sound");
     assert!(resumed > KILLS / 4);
+}
+
+/// Killed right after something has come into being, where the moments between two writes are short.
+#[test]
+fn killed_between_two_writes() {
+    let folder = Folder::new("between");
+    let whole = built(&folder, "whole");
+    let expected = results(&whole);
+    let mut chance = Chance(1);
+    for (number, landmark) in [
+        "swistopal.rebuild",
+        "swistopal.rebuild/lock",
+        "swistopal.rebuild/queues",
+        "swistopal.rebuild/plan.part",
+        "swistopal.rebuild/plan",
+        "swistopal.rebuild/journal.part",
+        "swistopal.rebuild/journal",
+        "swistopal.rebuild/store/consumequeue",
+        "swistopal.rebuild/old",
+        "swistopal.rebuild/old/consumequeue",
+        "swistopal.rebuild/old/index",
+        "swistopal.rebuild.done",
+        "consumequeue",
+        "index",
+    ]
+    .into_iter()
+    .enumerate()
+    {
+        for replacing in [false, true] {
+            for late in [0, 500, 3000] {
+                let store = folder.join(&format!("{number}-{replacing}-{late}"));
+                tool("demo", &store, &[]).is(0, "");
+                // Results that are replaced stand where the new ones come: those moments are seen by what is put aside.
+                if replacing {
+                    let other = ["--entries", "100", "--slots", "1", "--items", "1300"];
+                    tool("rebuild", &store, &other).is(0, "stop      0");
+                }
+                let mut child = begin(&store, "200");
+                while !store.join(landmark).exists() && child.try_wait().unwrap().is_none() {}
+                sleep(Duration::from_micros(chance.below(late + 1)));
+                child.kill().unwrap();
+                child.wait().unwrap();
+                tool("rebuild", &store, &[&SMALL[..], &["--force"]].concat()).is(0, "stop      0");
+                assert_eq!(results(&store), expected, "{landmark}");
+                assert_eq!(fs::read_dir(&store).unwrap().count(), 3);
+            }
+        }
+    }
 }
 
 /// After a power cut any pages of the work files may be old ones while the journal is the new one.
