@@ -11,7 +11,7 @@ use crate::out;
 use crate::plan::{Plan, Sizes};
 use crate::queues::{self, directory, Queue};
 use crate::text::{array, counted, grouped, string, Object};
-use crate::time::rfc3339;
+use crate::time;
 use crate::work;
 use std::io::Write;
 use std::path::Path;
@@ -105,8 +105,8 @@ fn check_log(log: &Log, report: &mut Report) -> Result<End, Failure> {
     if let Some((first, last)) = times {
         let span = format!(
             "stored from {} ({first}) to {} ({last})",
-            rfc3339(first),
-            rfc3339(last)
+            time::shown(first),
+            time::shown(last)
         );
         report.add("log", true, span);
     }
@@ -255,6 +255,14 @@ fn check_queues(store: &Path, expected: &Expected, report: &mut Report) -> Resul
             report
                 .missing
                 .push(format!("queue {name}: {count} by the log"));
+            continue;
+        }
+        let most = expected.plan.entries.0;
+        if files.iter().any(|file| file.first + file.count > most) {
+            let most = grouped(most);
+            let sentence =
+                format!("{name}: not compared, as it goes past the {most} entries of one file");
+            report.add("queues", false, sentence);
             continue;
         }
         let mut found = Vec::new();

@@ -319,7 +319,7 @@ fn contiguous<'s>(
     let mut taken = 0;
     for segment in segments {
         let path = segment.path.display();
-        let expected = segments[0].first + taken as u64 * size;
+        let expected = segments[0].first.saturating_add(taken as u64 * size);
         if segment.first != expected {
             faults.push(format!(
                 "{path}: the segment at {expected} is missing before it; the log is read up to there"
@@ -338,7 +338,7 @@ fn contiguous<'s>(
             faults.push(sentence + "; the log is read up to its start");
             break;
         }
-        if expected + size > LAST_END {
+        if expected.saturating_add(size) > LAST_END {
             return fault(format!(
                 "{path}: it ends above 2^40, where a log ends at most"
             ));

@@ -28,7 +28,7 @@ use args::Args;
 use failure::{usage, Failure, Outcome};
 use std::env;
 use std::ffi::OsString;
-use std::io::{self, BufWriter, StdoutLock};
+use std::io::{self, BufWriter, StdoutLock, Write};
 use std::process::ExitCode;
 
 struct Command {
@@ -117,7 +117,15 @@ fn out() -> BufWriter<StdoutLock<'static>> {
 
 /// Says something on standard error.
 fn note(sentence: &str) {
-    eprintln!("swistopal: {sentence}");
+    // If nobody listens, the results and the exit status still tell.
+    let _ = writeln!(io::stderr(), "swistopal: {sentence}");
+}
+
+fn print(text: &str) -> Result<Outcome, Failure> {
+    let mut out = out();
+    out.write_all(text.as_bytes())?;
+    out.flush()?;
+    Ok(Outcome::Sound)
 }
 
 fn main() -> ExitCode {
@@ -142,13 +150,11 @@ fn run() -> Result<Outcome, Failure> {
     };
     let rest: Vec<OsString> = words.collect();
     if name == "--version" {
-        println!("swistopal {}", env!("CARGO_PKG_VERSION"));
-        return Ok(Outcome::Sound);
+        return print(concat!("swistopal ", env!("CARGO_PKG_VERSION"), "\n"));
     }
     if name == "--help" || name == "-h" || name == "help" {
         let named = rest.first().and_then(|name| command(name));
-        print!("{}", named.map_or(help::ALL, |command| command.help));
-        return Ok(Outcome::Sound);
+        return print(named.map_or(help::ALL, |command| command.help));
     }
     let Some(command) = command(&name) else {
         return usage(format!(
@@ -157,8 +163,7 @@ fn run() -> Result<Outcome, Failure> {
         ));
     };
     if rest.iter().any(|word| word == "--help" || word == "-h") {
-        print!("{}", command.help);
-        return Ok(Outcome::Sound);
+        return print(command.help);
     }
     let args = Args::parse(rest.into_iter(), command.flags, command.values);
     let args = args.map_err(|failure| match failure {

@@ -41,8 +41,8 @@ impl Meter {
         if self.terminal {
             let full = (done * BAR / all) as usize;
             let bar = format!("{}{}", "#".repeat(full), ".".repeat(BAR as usize - full));
-            eprint!("\r[{bar}] {percent:>3}%  {rate} steps/s  {left} left \x1b[K");
-            let _ = io::stderr().flush();
+            let line = format!("\r[{bar}] {percent:>3}%  {rate} steps/s  {left} left \x1b[K");
+            let _ = io::stderr().write_all(line.as_bytes());
         } else {
             crate::note(&format!("{percent}%, {rate} steps/s, {left} left"));
         }
@@ -53,7 +53,7 @@ impl Drop for Meter {
     /// Takes the bar away, so that what is said next stands on its own line.
     fn drop(&mut self) {
         if self.terminal && self.drawn.is_some() {
-            eprint!("\r\x1b[K");
+            let _ = io::stderr().write_all(b"\r\x1b[K");
         }
     }
 }

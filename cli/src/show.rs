@@ -2,7 +2,7 @@
 
 use crate::properties::Names;
 use crate::text::{array, of_bytes, shown, Object};
-use crate::time::rfc3339;
+use crate::time;
 use std::io::{self, Write};
 use swistopal::{LogPosition, Message};
 
@@ -49,7 +49,7 @@ pub fn line(
     writeln!(
         out,
         "{:24}  {:<13} {:>12} {:>7} {:>5} {:>6}  {topic}{} / {keys}",
-        rfc3339(message.store_time),
+        time::shown(message.store_time),
         message.store_time,
         position.0,
         length,

@@ -107,10 +107,11 @@ impl Object {
         self.raw(name, &value)
     }
 
-    /// Milliseconds, and the same time in RFC 3339.
+    /// Milliseconds, and the same time in RFC 3339 where that has it.
     pub fn time(self, name: &str, time: u64) -> Object {
+        let written = crate::time::rfc3339(time).map_or(String::from("null"), |text| string(&text));
         self.number(name, time)
-            .text(&format!("{name}_rfc3339"), &crate::time::rfc3339(time))
+            .raw(&format!("{name}_rfc3339"), &written)
     }
 
     pub fn end(mut self) -> String {

@@ -5,14 +5,18 @@ pub const LAST: u64 = (1 << 48) - 1;
 
 const DAY: u64 = 86_400_000;
 
-/// RFC 3339 in UTC with milliseconds. It has no years past 9999: such a time is given as its milliseconds.
-pub fn rfc3339(time: u64) -> String {
+/// RFC 3339 in UTC with milliseconds. It has no years past 9999.
+pub fn rfc3339(time: u64) -> Option<String> {
     let (year, month, day) = date(time / DAY);
-    if year > 9999 {
-        return format!("{time} ms (past the year 9999)");
-    }
     let (hour, minute, second, milli) = clock(time);
-    format!("{year:04}-{month:02}-{day:02}T{hour:02}:{minute:02}:{second:02}.{milli:03}Z")
+    let text =
+        format!("{year:04}-{month:02}-{day:02}T{hour:02}:{minute:02}:{second:02}.{milli:03}Z");
+    (year <= 9999).then_some(text)
+}
+
+/// The same for people.
+pub fn shown(time: u64) -> String {
+    rfc3339(time).unwrap_or_else(|| String::from("past the year 9999"))
 }
 
 /// Digits only, as RocketMQ names an index file.
@@ -125,15 +129,16 @@ mod tests {
             ("2026-03-02T05:58:00.000Z", 1_772_431_080_000),
             ("9999-12-31T23:59:59.999Z", 253_402_300_799_999),
         ] {
-            assert_eq!(rfc3339(time), text);
+            assert_eq!(rfc3339(time).as_deref(), Some(text));
             assert_eq!(parse(text), Some(time));
         }
         let mut time = 1;
         while time < 253_402_300_799_999 {
-            assert_eq!(parse(&rfc3339(time)), Some(time));
+            assert_eq!(rfc3339(time).and_then(|text| parse(&text)), Some(time));
             time = time * 5 / 4 + 86_399_999;
         }
-        assert_eq!(rfc3339(LAST), "281474976710655 ms (past the year 9999)");
+        assert_eq!(rfc3339(253_402_300_800_000), None);
+        assert_eq!(shown(LAST), "past the year 9999");
         assert_eq!(file_name(951_827_696_789), "20000229123456789");
     }
 

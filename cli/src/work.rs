@@ -48,7 +48,12 @@ impl Claim {
 
     pub fn create(store: &Path) -> Result<Claim, Failure> {
         let folder = store.join(FOLDER);
-        fs::create_dir(&folder).at("create", &folder)?;
+        if let Err(error) = fs::create_dir(&folder) {
+            return fault(format!(
+                "cannot create {}: {error}; a rebuild works inside the store, so copy it to where it can be written",
+                folder.display()
+            ));
+        }
         Claim::lock(store, folder)
     }
 

@@ -191,6 +191,23 @@ fn folders_of_another_layout() {
         };
         tool(command, &file, options).is(2, "a folder is needed");
     }
+    // Names that are numbers, but no positions of a log.
+    let far = stores.folder.join("far");
+    fs::create_dir_all(far.join("commitlog")).unwrap();
+    for first in [u64::MAX - 1023, 1 << 40] {
+        let path = segment(&far, first);
+        fs::write(&path, [0; 1024]).unwrap();
+        tool("check", &far, &[]).is(1, "it ends above 2^40");
+        fs::remove_file(path).unwrap();
+    }
+    fs::write(far.join("commitlog/99999999999999999999"), [0; 1024]).unwrap();
+    tool("check", &far, &[]).is(1, "no segment in it");
+    let store = stores.copy();
+    let trim = queue_file(&store, "SORTER_TRIM", 0);
+    fs::copy(&trim, trim.with_file_name("18446744073709551600")).unwrap();
+    tool("check", &store, &[]).is(1, "it goes past the 300,000 entries of one file");
+    let queue = ["--topic", "SORTER_TRIM", "--queue", "0"];
+    tool("queue", &store, &queue).is(0, "40 records");
     // A log without a record.
     let zeros = stores.folder.join("zeros");
     made(&zeros, 0, 4096, 0, |_, _| Vec::new());
@@ -562,10 +579,13 @@ fn a_medium_that_cannot_be_written() {
     let folder = Folder::new("medium");
     let store = folder.join("store");
     tool("demo", &store, &[]).is(0, "");
+    let first = segment(&store, 0);
+    fs::set_permissions(&first, fs::Permissions::from_mode(0o444)).unwrap();
     fs::set_permissions(&store, fs::Permissions::from_mode(0o555)).unwrap();
+    tool("list", &store, &[]).is(0, "stop 0");
     // Whoever may write everywhere sees no read-only medium here.
     if fs::write(store.join("probe"), "").is_err() {
-        tool("rebuild", &store, &SMALL).is(1, "cannot create");
+        tool("rebuild", &store, &SMALL).is(1, "copy it to where it can be written");
     }
     fs::set_permissions(&store, fs::Permissions::from_mode(0o755)).unwrap();
 }
