@@ -171,13 +171,13 @@ impl Bytes<'_> {
         self.number::<4>(slot_place(slot))
     }
 
-    /// The first item has the header's first position, the last one its last position and its slot.
+    /// The first item has the header's first position, the last one its last position and its slot. A hash of 0 proves
+    /// nothing: zeros stand at many places.
     fn fits(&self, geometry: IndexGeometry) -> bool {
-        let last = self.used() - 1;
-        if last >= geometry.items {
+        let (slots, last) = (geometry.slots, self.used() - 1);
+        if last >= geometry.items || self.number::<4>(item_place(slots, last)) == Some(0) {
             return false;
         }
-        let slots = geometry.slots;
         let slot = self.slot_of_item(slots, last);
         self.item_position(slots, 1) == self.number::<8>(16)
             && self.item_position(slots, last) == self.number::<8>(24)

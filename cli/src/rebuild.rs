@@ -91,25 +91,22 @@ fn open(
     list: Option<&Path>,
     args: &Args,
 ) -> Result<Work, Failure> {
+    let restart = args.flag("--restart");
     let mut claim = Claim::existing(store)?;
-    if args.flag("--restart") {
-        if let Some(claim) = claim.take() {
-            claim.discard()?;
+    if let Some(under_way) = claim.take_if(|_| !restart) {
+        if let Some(plan) = under_way.plan()? {
+            plan.agrees(log, sizes, list)?;
+            return under_way.resume(plan);
         }
-    }
-    if let Some(claim) = claim {
-        return match claim.plan()? {
-            Some(plan) => {
-                plan.agrees(log, sizes, list)?;
-                claim.resume(plan)
-            }
-            None => claim.begin(Plan::new(log, sizes, list)?),
-        };
+        claim = Some(under_way);
     }
     if let Some(place) = work::results_in_the_way(store).filter(|_| !args.flag("--force")) {
         return in_the_way(&place);
     }
     let plan = Plan::new(log, sizes, list)?;
+    if let Some(claim) = claim {
+        claim.discard()?;
+    }
     work::remove_finished(store)?;
     Claim::create(store)?.begin(plan)
 }

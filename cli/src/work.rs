@@ -100,14 +100,9 @@ impl Claim {
         remove_finished(&self.store)
     }
 
-    /// Writes a plan with empty work files. The plan comes last: without it nothing here counts.
+    /// Writes a plan with empty work files into a new folder. The plan comes last: without it nothing here counts.
     pub fn begin(self, plan: Plan) -> Result<Work, Failure> {
         let parts = Parts::of(&self.folder, &plan);
-        for stale in [&parts.store, &parts.old] {
-            if stale.exists() {
-                fs::remove_dir_all(stale).at("remove", stale)?;
-            }
-        }
         fs::create_dir_all(&parts.index_folder).at("create", &parts.index_folder)?;
         let queues = zeros(&parts.queues, queues_length(&plan)?)?;
         let region = plan.entries.0 * QueueEntries::ENTRY_BYTES;

@@ -258,8 +258,13 @@ fn rebuild_makes_what_check_expects() {
         .is(0, "going on at position");
     assert_eq!(files(&store), built);
 
-    // Begun, then anew with other sizes.
+    // Begun, then anew with other sizes. What cannot be done forgets nothing.
     tool("rebuild", &store, &options).is(0, "stop      9");
+    let begun = files(&store);
+    tool("rebuild", &store, &["--restart"]).is(2, "replace it with --force");
+    let refused = ["--restart", "--force", "--queues", "/nowhere/at/all"];
+    tool("rebuild", &store, &refused).is(2, "--queues /nowhere/at/all");
+    assert_eq!(files(&store), begun);
     let other = [
         "--restart",
         "--force",

@@ -352,6 +352,27 @@ fn sizes_of_an_index_are_found() {
     }
 }
 
+/// The number of slots is not taken from a place where only zeros stand.
+#[test]
+fn sizes_of_an_index_are_not_guessed() {
+    let folder = Folder::new("guess");
+    let store = folder.join("store");
+    // `polygenelubricants` has the index hash 0 by itself; no key gives it with a topic here, so it is written by hand.
+    made(&store, 0, 4096, 1, |position, _| {
+        record(position, b"T", (0, 0), 1000, b"KEYS\x01k")
+    });
+    tool("rebuild", &store, &["--slots", "1", "--items", "5"]).is(0, "1 item");
+    let index = index_file(&store);
+    edit(&index, |bytes| bytes[64..68].fill(0));
+    tool("query", &store, &["--topic", "T", "--key", "k"]).is(1, "--slots is needed");
+    tool(
+        "query",
+        &store,
+        &["--topic", "T", "--key", "k", "--slots", "1"],
+    )
+    .is(0, "0 records");
+}
+
 #[test]
 fn stops_of_a_rebuild() {
     let folder = Folder::new("stops");
