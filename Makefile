@@ -1,7 +1,8 @@
-# What others link: the archive, the header, a pkg-config file and the lister.
+# What others link: the archive, the header, a pkg-config file and the lister; and the tool for people.
 #
 #   make                         the archive, proved
-#   make install PREFIX=/usr     header, archive, swistopal.pc and lister
+#   make cli                     the tool: target/bin/swistopal
+#   make install PREFIX=/usr     header, archive, swistopal.pc, lister and tool
 #   make example                 builds and runs examples/store.c
 #   make compare COUNT=20000 SEED=1   the archive against the independent model
 #   make mutants                 the comparison against wrong models
@@ -25,9 +26,10 @@ LISTER ?= $(built_lister)
 export SWISTOPAL_LIB_DIR
 
 archive := $(SWISTOPAL_LIB_DIR)/libswistopal.a
+tool_sources := $(wildcard cli/Cargo.* cli/src/*.rs bindings/rust/Cargo.* bindings/rust/*.rs bindings/rust/src/*.rs)
 sources := crates.txt $(shell find crates -name '*.rt' -o -name '*.antt')
 
-.PHONY: all install example compare mutants bench interface
+.PHONY: all install example compare mutants bench interface cli
 all: $(archive)
 
 $(built_lib_dir)/libswistopal.a: $(sources)
@@ -51,12 +53,22 @@ target/swistopal.pc:
 	    'Libs: -L$${libdir} -lswistopal' \
 	    'Cflags: -I$${includedir}' > $@
 
-install: $(archive) $(LISTER) target/swistopal.pc
-	install -d $(DESTDIR)$(PREFIX)/include $(DESTDIR)$(PREFIX)/lib/pkgconfig $(DESTDIR)$(PREFIX)/bin
+cli: target/bin/swistopal
+
+target/bin/swistopal: $(archive) $(tool_sources)
+	cargo build --quiet --release --offline --manifest-path cli/Cargo.toml --target-dir target/cli
+	install -D -m 755 target/cli/release/swistopal $@
+
+install: $(archive) $(LISTER) target/bin/swistopal target/swistopal.pc
+	install -d $(DESTDIR)$(PREFIX)/include $(DESTDIR)$(PREFIX)/lib/pkgconfig $(DESTDIR)$(PREFIX)/bin \
+	    $(DESTDIR)$(PREFIX)/share/man/man1 $(DESTDIR)$(PREFIX)/share/bash-completion/completions
 	install -m 644 include/swistopal.h $(DESTDIR)$(PREFIX)/include/swistopal.h
 	install -m 644 $(archive) $(DESTDIR)$(PREFIX)/lib/libswistopal.a
 	install -m 644 target/swistopal.pc $(DESTDIR)$(PREFIX)/lib/pkgconfig/swistopal.pc
 	install -m 755 $(LISTER) $(DESTDIR)$(PREFIX)/bin/lister
+	install -m 755 target/bin/swistopal $(DESTDIR)$(PREFIX)/bin/swistopal
+	install -m 644 cli/swistopal.1 $(DESTDIR)$(PREFIX)/share/man/man1/swistopal.1
+	install -m 644 cli/completion.bash $(DESTDIR)$(PREFIX)/share/bash-completion/completions/swistopal
 
 target/example/store: examples/store.c include/swistopal.h $(archive)
 	mkdir -p target/example

@@ -40,9 +40,10 @@ g++ "${as_cpp[@]}" "${strict[@]}" -Iinclude examples/store.c "${link[@]}" -o "$f
 "$folder/example-cpp" | diff examples/store.stdout -
 passed "example as C++17"
 
-# Given archive and lister, nothing is to be built.
+# Given archive and lister, only the tool is to be built.
 make --silent install PREFIX="$folder/prefix" SWISTOPAL_LIB_DIR="$SWISTOPAL_LIB_DIR" LISTER="$LISTER"
-for installed in include/swistopal.h lib/libswistopal.a lib/pkgconfig/swistopal.pc bin/lister; do
+for installed in include/swistopal.h lib/libswistopal.a lib/pkgconfig/swistopal.pc bin/lister bin/swistopal \
+    share/man/man1/swistopal.1 share/bash-completion/completions/swistopal; do
     [ -f "$folder/prefix/$installed" ] || { echo "interface: $installed is not installed" >&2; exit 1; }
 done
 read -ra flags <<< "$(PKG_CONFIG_PATH="$folder/prefix/lib/pkgconfig" pkg-config --cflags --libs swistopal)"

@@ -1,0 +1,54 @@
+# Completion of swistopal for bash: source it, or put it into bash-completion's folder under the name swistopal.
+
+_swistopal() {
+    local word=${COMP_WORDS[COMP_CWORD]} before=${COMP_WORDS[COMP_CWORD - 1]} options
+    COMPREPLY=()
+    if ((COMP_CWORD == 1)); then
+        mapfile -t COMPREPLY < <(compgen -W 'demo list rebuild query queue check --help --version' -- "$word")
+        return
+    fi
+    case ${COMP_WORDS[1]} in
+        demo) options='--help' ;;
+        list) options='--from --limit --long --json --end --segment-size --help' ;;
+        rebuild) options='--queues --budget --batch --entries --slots --items --force --restart --json --end --segment-size --help' ;;
+        query) options='--topic --key --from --to --limit --body --json --slots --end --segment-size --help' ;;
+        queue) options='--topic --queue --start --limit --tag --body --json --end --segment-size --help' ;;
+        check) options='--queues --slots --json --end --segment-size --help' ;;
+        *) return ;;
+    esac
+    case $before in
+        --queues)
+            compopt -o filenames 2> /dev/null
+            mapfile -t COMPREPLY < <(compgen -f -- "$word")
+            return
+            ;;
+        --topic)
+            # The topics that have queues in the store named before. Their names may be any bytes: nothing expands them.
+            local place path
+            for place in "${COMP_WORDS[@]:2}"; do
+                for path in "$place"/consumequeue/*/; do
+                    path=${path%/}
+                    path=${path##*/}
+                    if [[ -d $place/consumequeue/$path && $path == "$word"* ]]; then
+                        COMPREPLY+=("$(printf '%q' "$path")")
+                    fi
+                done
+            done
+            return
+            ;;
+        --json | --long | --body | --force | --restart | --help) ;;
+        --*) return ;;
+    esac
+    if [[ $word == -* ]]; then
+        mapfile -t COMPREPLY < <(compgen -W "$options" -- "$word")
+    else
+        compopt -o filenames 2> /dev/null
+        if [[ ${COMP_WORDS[1]} == list ]]; then
+            mapfile -t COMPREPLY < <(compgen -f -- "$word")
+        else
+            mapfile -t COMPREPLY < <(compgen -d -- "$word")
+        fi
+    fi
+}
+
+complete -F _swistopal swistopal

@@ -1,0 +1,138 @@
+//! The command line: `--name value`, `--name=value`, flags, and one place. Values are bytes, as keys may be any.
+
+use crate::failure::{usage, Failure};
+use crate::time;
+use std::ffi::{OsStr, OsString};
+use std::os::unix::ffi::{OsStrExt, OsStringExt};
+use std::path::{Path, PathBuf};
+
+pub struct Args {
+    place: PathBuf,
+    flags: Vec<&'static str>,
+    values: Vec<(&'static str, OsString)>,
+}
+
+impl Args {
+    pub fn parse(
+        words: impl Iterator<Item = OsString>,
+        flags: &[&'static str],
+        values: &[&'static str],
+    ) -> Result<Args, Failure> {
+        let mut place = None;
+        let mut given = Args {
+            place: PathBuf::new(),
+            flags: Vec::new(),
+            values: Vec::new(),
+        };
+        let mut words = words.peekable();
+        let mut only_places = false;
+        while let Some(word) = words.next() {
+            let bytes = word.as_bytes();
+            if !only_places && bytes == b"--" {
+                only_places = true;
+                continue;
+            }
+            if only_places || !bytes.starts_with(b"-") || bytes == b"-" {
+                if place.replace(PathBuf::from(&word)).is_some() {
+                    return usage(format!("{}: one place is enough", word.display()));
+                }
+                continue;
+            }
+            let (name, value) = match bytes.iter().position(|byte| *byte == b'=') {
+                Some(at) => (&bytes[..at], Some(&bytes[at + 1..])),
+                None => (bytes, None),
+            };
+            let known = |names: &[&'static str]| {
+                let found = names.iter().find(|known| known.as_bytes() == name);
+                found.copied()
+            };
+            if let Some(flag) = known(flags) {
+                if value.is_some() {
+                    return usage(format!("{flag} takes no value"));
+                }
+                given.flags.push(flag);
+            } else if let Some(option) = known(values) {
+                let value = match value {
+                    Some(value) => OsString::from_vec(value.to_vec()),
+                    None => match words.next() {
+                        Some(value) => value,
+                        None => return usage(format!("{option} needs a value")),
+                    },
+                };
+                if given.values.iter().any(|(name, _)| *name == option) {
+                    return usage(format!("{option} is given twice"));
+                }
+                given.values.push((option, value));
+            } else {
+                let name = OsStr::from_bytes(name);
+                return usage(format!("no such option: {}", name.display()));
+            }
+        }
+        match place {
+            Some(place) => Ok(Args { place, ..given }),
+            None => usage("which folder?"),
+        }
+    }
+
+    pub fn place(&self) -> &Path {
+        &self.place
+    }
+
+    pub fn flag(&self, name: &str) -> bool {
+        self.flags.contains(&name)
+    }
+
+    pub fn value(&self, name: &str) -> Option<&OsStr> {
+        let found = self.values.iter().find(|(given, _)| *given == name);
+        found.map(|(_, value)| value.as_os_str())
+    }
+
+    pub fn bytes(&self, name: &str) -> Result<&[u8], Failure> {
+        match self.value(name) {
+            Some(value) => Ok(value.as_bytes()),
+            None => usage(format!("{name} is needed")),
+        }
+    }
+
+    pub fn number(&self, name: &str) -> Result<Option<u64>, Failure> {
+        self.number_within(name, 0, u64::MAX)
+    }
+
+    pub fn number_within(&self, name: &str, low: u64, high: u64) -> Result<Option<u64>, Failure> {
+        let Some(value) = self.value(name) else {
+            return Ok(None);
+        };
+        match value.to_str().and_then(number) {
+            Some(number) if (low..=high).contains(&number) => Ok(Some(number)),
+            _ => usage(format!(
+                "{name} {}: a number from {low} to {high} is needed",
+                value.display()
+            )),
+        }
+    }
+
+    /// Milliseconds, given as such or as RFC 3339.
+    pub fn time(&self, name: &str) -> Result<Option<u64>, Failure> {
+        let Some(value) = self.value(name) else {
+            return Ok(None);
+        };
+        let text = value.to_str().unwrap_or("");
+        let time = number(text).or_else(|| time::parse(text));
+        match time.filter(|time| *time <= time::LAST) {
+            Some(time) => Ok(Some(time)),
+            None => usage(format!(
+                "{name} {}: a time is milliseconds from 0 to {}, or RFC 3339 from 1970 on, as 2026-03-02T06:00:00Z",
+                value.display(),
+                time::LAST
+            )),
+        }
+    }
+}
+
+/// Digits alone: no sign, no spaces.
+pub fn number(text: &str) -> Option<u64> {
+    if text.is_empty() || !text.bytes().all(|byte| byte.is_ascii_digit()) {
+        return None;
+    }
+    text.parse().ok()
+}

@@ -1,0 +1,119 @@
+//! What `--help` prints.
+
+pub const ALL: &str = "\
+swistopal: look into a RocketMQ store folder, and rebuild its queues and its index from the commit log
+
+  swistopal demo DIR       make a small store of a parcel sorter
+  swistopal list DIR|FILE  list the records of the commit log or of one segment
+  swistopal rebuild DIR    make consume queues and index from the commit log
+  swistopal query DIR      find records by topic and key, newest first
+  swistopal queue DIR      show the records of one queue, in order
+  swistopal check DIR      say what is sound, where it stops, what is missing and what to do next
+
+swistopal COMMAND --help says more; --version gives the version.
+A store folder has commitlog/ with 20-digit names, consumequeue/TOPIC/QUEUE/ and index/. The commit log is only read.
+Results go to standard output, all else to standard error. Exit status: 0, 1 (a fault was found), 2 (bad usage).
+";
+
+pub const DEMO: &str = "\
+swistopal demo DIR
+
+Makes the folder DIR with the commit log of a parcel sorter's shift: inductions, diverts and trims, in three topics and
+seven queues, the same bytes each time. DIR must not be there yet, or be empty.
+";
+
+pub const LIST: &str = "\
+swistopal list DIR|FILE [--from POSITION] [--limit N] [--long] [--json]
+
+Lists the records and blanks of a store's commit log or of one segment file: position, length, queue and store time in
+milliseconds, then the number of the answer that ended it. A file's name of 20 digits is its first position; any other
+file starts at 0. Zeros up to the end of the files are the log's end.
+
+  --from POSITION      start at this record
+  --limit N            at most N lines; more to come is stop 9
+  --long               time also in RFC 3339, with topic, tags and keys
+  --json               one object
+  --end POSITION       read up to here; zeros before it are then damage
+  --segment-size S     if the first segment is cut short and its size cannot be told from the files
+";
+
+pub const REBUILD: &str = "\
+swistopal rebuild DIR [--queues FILE] [--budget N] [--slots K] [--items N]
+
+Makes DIR/consumequeue and DIR/index from DIR/commitlog. It works in DIR/swistopal.rebuild and puts the results into
+their places at the end; it can be stopped at any time, even by a power cut, and the same command goes on. Damage in the
+log ends the rebuild there: what is before it is put in place, and the exit status is 1.
+
+  --queues FILE        the queues, a line `TOPIC QUEUE` for each, 1 to 16; otherwise those of the log, in its order
+  --budget N           at most N steps now; more to come is stop 9
+  --batch N            steps that are kept together, 65,536 otherwise; a crash costs the time of one batch at most
+  --entries R          entries of a queue's file, 1 to 300,000; otherwise 300,000, as RocketMQ has it
+  --slots K            slots of the index, 1 to 5,000,000; otherwise 5,000,000, as RocketMQ has it
+  --items N            items of the index, 2 to 20,000,000; otherwise 20,000,000, as RocketMQ has it
+  --force              replace a consumequeue or index that is there
+  --restart            begin anew and forget a rebuild that is under way
+  --json               one object
+  --end POSITION, --segment-size S   as for list
+";
+
+pub const QUERY: &str = "\
+swistopal query DIR --topic T --key K [--from TIME] [--to TIME] [--limit N] [--body] [--json]
+
+Finds the records of a topic that carry a key, among KEYS or as UNIQ_KEY, newest first. Each one is read back from the
+log: one that only shares the key's hash is left out and counted, one that does not stand in the log is a fault.
+
+  --topic T, --key K   any bytes
+  --from TIME          not stored before; milliseconds, or RFC 3339 as 2026-03-02T06:00:00Z
+  --to TIME            not stored after
+  --limit N            at most N records, 32 otherwise
+  --body               also the body
+  --json               one object
+  --slots K            slots of the index, if they cannot be told from the file
+  --end POSITION, --segment-size S   as for list
+";
+
+pub const QUEUE: &str = "\
+swistopal queue DIR --topic T --queue N [--start N] [--limit N] [--tag TAG] [--body] [--json]
+
+Shows the records of one queue in order, each one read back from the log.
+
+  --topic T, --queue N the queue
+  --start N            from this entry on
+  --limit N            at most N records
+  --tag TAG            only entries with this tag's code
+  --body               also the body
+  --json               one object
+  --end POSITION, --segment-size S   as for list
+";
+
+pub const CHECK: &str = "\
+swistopal check DIR [--queues FILE] [--slots K] [--json]
+
+Walks log, queues and index and says what is sound, where it stops and with which number, what is missing, and what to do
+next. Queues and index are compared with those that the log gives, which are made in memory. Nothing is written.
+
+  --queues FILE        the queues, if the log has more than 16; as for rebuild
+  --slots K            slots of the index, if they cannot be told from the file
+  --json               one object
+  --end POSITION, --segment-size S   as for list
+
+The numbers of the answers:
+   0  done, caught up, chain ended or enough found
+   1  a size breaks its limit, or the log or the index has another length
+   2  a position, the readable end or an entry count is bad
+   3  the directory is bad or has not 1 to 16 rows, or the queue buffer has another length
+   4  the index header is bad
+   5  the append request is outside the record rules
+   6  the log is full
+   7  a blank was written; try again at the new position
+   8  the record is not wholly below the readable end
+   9  the budget is spent
+  10  the record is damaged
+  11  the queue is not listed
+  12  the queue is out of step
+  13  the queue is full
+  14  the index is full
+  15  the index is ahead of the log
+  16  the chain is broken
+  17  the query or the queue reading is malformed
+";

@@ -1,0 +1,181 @@
+//! `swistopal`: looks into a RocketMQ store folder, and rebuilds its queues and its index from the commit log.
+//!
+//! The archive does all reading, rebuilding and searching. This program finds, maps and lends files.
+
+mod args;
+mod check;
+mod demo;
+mod failure;
+mod help;
+mod index;
+mod journal;
+mod list;
+mod log;
+mod map;
+mod meter;
+mod plan;
+mod properties;
+mod query;
+mod queue;
+mod queues;
+mod rebuild;
+mod show;
+mod text;
+mod time;
+mod work;
+
+use args::Args;
+use failure::{usage, Failure, Outcome};
+use std::env;
+use std::ffi::OsString;
+use std::io::{self, BufWriter, StdoutLock, Write};
+use std::process::ExitCode;
+
+struct Command {
+    name: &'static str,
+    help: &'static str,
+    flags: &'static [&'static str],
+    values: &'static [&'static str],
+    run: fn(&Args) -> Result<Outcome, Failure>,
+}
+
+const COMMANDS: [Command; 6] = [
+    Command {
+        name: "demo",
+        help: help::DEMO,
+        flags: &[],
+        values: &[],
+        run: demo::run,
+    },
+    Command {
+        name: "list",
+        help: help::LIST,
+        flags: &["--json", "--long"],
+        values: &["--from", "--limit", "--segment-size", "--end"],
+        run: list::run,
+    },
+    Command {
+        name: "rebuild",
+        help: help::REBUILD,
+        flags: &["--json", "--force", "--restart"],
+        values: &[
+            "--queues",
+            "--budget",
+            "--batch",
+            "--entries",
+            "--slots",
+            "--items",
+            "--segment-size",
+            "--end",
+        ],
+        run: rebuild::run,
+    },
+    Command {
+        name: "query",
+        help: help::QUERY,
+        flags: &["--json", "--body"],
+        values: &[
+            "--topic",
+            "--key",
+            "--from",
+            "--to",
+            "--limit",
+            "--slots",
+            "--segment-size",
+            "--end",
+        ],
+        run: query::run,
+    },
+    Command {
+        name: "queue",
+        help: help::QUEUE,
+        flags: &["--json", "--body"],
+        values: &[
+            "--topic",
+            "--queue",
+            "--start",
+            "--limit",
+            "--tag",
+            "--segment-size",
+            "--end",
+        ],
+        run: queue::run,
+    },
+    Command {
+        name: "check",
+        help: help::CHECK,
+        flags: &["--json"],
+        values: &["--queues", "--slots", "--segment-size", "--end"],
+        run: check::run,
+    },
+];
+
+/// Results; everything else goes to standard error.
+fn out() -> BufWriter<StdoutLock<'static>> {
+    BufWriter::with_capacity(1 << 16, io::stdout().lock())
+}
+
+/// Says something on standard error.
+fn note(sentence: &str) {
+    // If nobody listens, the results and the exit status still tell.
+    let _ = writeln!(io::stderr(), "swistopal: {sentence}");
+}
+
+fn print(text: &str) -> Result<Outcome, Failure> {
+    let mut out = out();
+    out.write_all(text.as_bytes())?;
+    out.flush()?;
+    Ok(Outcome::Sound)
+}
+
+fn main() -> ExitCode {
+    match run() {
+        Ok(Outcome::Sound) | Err(Failure::Unread) => ExitCode::SUCCESS,
+        Ok(Outcome::Fault) => ExitCode::from(1),
+        Err(Failure::Fault(sentence)) => {
+            note(&sentence);
+            ExitCode::from(1)
+        }
+        Err(Failure::Usage(sentence)) => {
+            note(&sentence);
+            ExitCode::from(2)
+        }
+    }
+}
+
+fn run() -> Result<Outcome, Failure> {
+    let mut words = env::args_os().skip(1);
+    let Some(name) = words.next() else {
+        return usage("which command? swistopal --help shows them");
+    };
+    let rest: Vec<OsString> = words.collect();
+    if name == "--version" {
+        return print(concat!("swistopal ", env!("CARGO_PKG_VERSION"), "\n"));
+    }
+    if name == "--help" || name == "-h" || name == "help" {
+        let named = rest.first().and_then(|name| command(name));
+        return print(named.map_or(help::ALL, |command| command.help));
+    }
+    let Some(command) = command(&name) else {
+        return usage(format!(
+            "no such command: {}; swistopal --help shows them",
+            name.display()
+        ));
+    };
+    if rest.iter().any(|word| word == "--help" || word == "-h") {
+        return print(command.help);
+    }
+    let args = Args::parse(rest.into_iter(), command.flags, command.values);
+    let args = args.map_err(|failure| match failure {
+        Failure::Usage(sentence) => Failure::Usage(format!(
+            "{sentence}; swistopal {} --help says more",
+            command.name
+        )),
+        other => other,
+    })?;
+    (command.run)(&args)
+}
+
+fn command(name: &std::ffi::OsStr) -> Option<&'static Command> {
+    COMMANDS.iter().find(|command| name == command.name)
+}

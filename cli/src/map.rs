@@ -1,0 +1,179 @@
+//! Files as memory. Everything `unsafe` of the tool is here.
+//!
+//! Every mapping is private: no byte of a file is ever changed through one. A read-only mapping is also made from a file
+//! that was opened for reading alone.
+//!
+//! Safety. A `Mapping` owns the address range that the kernel gave it, from `mmap` to its `munmap` in `drop`, and lends it
+//! for no longer than it lives. Bytes may be lent as a slice while nobody changes them: of the store's files this is what the
+//! tool asks of its users (a store is read while no broker writes it); of the work files of a rebuild the lock sees to it.
+
+#[cfg(not(all(target_os = "linux", target_pointer_width = "64")))]
+compile_error!("the constants and types of mmap below are those of 64-bit Linux");
+
+use std::ffi::{c_int, c_void};
+use std::fs::File;
+use std::io;
+use std::ops::{Deref, DerefMut};
+use std::os::fd::AsRawFd;
+use std::ptr;
+
+extern "C" {
+    fn mmap(
+        address: *mut c_void,
+        length: usize,
+        protection: c_int,
+        flags: c_int,
+        file: c_int,
+        offset: i64,
+    ) -> *mut c_void;
+    fn munmap(address: *mut c_void, length: usize) -> c_int;
+    fn getpagesize() -> c_int;
+}
+
+const PROT_NONE: c_int = 0;
+const PROT_READ: c_int = 1;
+const PROT_WRITE: c_int = 2;
+const MAP_PRIVATE: c_int = 0x02;
+const MAP_FIXED: c_int = 0x10;
+const MAP_ANONYMOUS: c_int = 0x20;
+const MAP_NORESERVE: c_int = 0x4000;
+const NO_FILE: c_int = -1;
+
+/// The size that pieces lying side by side must be a multiple of.
+pub fn page_size() -> u64 {
+    // SAFETY: it takes nothing and always answers.
+    unsafe { getpagesize() as u64 }
+}
+
+struct Mapping {
+    start: *mut u8,
+    length: usize,
+}
+
+impl Mapping {
+    fn new(length: usize, protection: c_int, flags: c_int, file: c_int) -> io::Result<Mapping> {
+        if length == 0 {
+            let start = ptr::NonNull::dangling().as_ptr();
+            return Ok(Mapping { start, length });
+        }
+        let flags = flags | MAP_PRIVATE | MAP_NORESERVE;
+        // SAFETY: the kernel chooses the range; nothing that is mapped already is touched.
+        let start = unsafe { mmap(ptr::null_mut(), length, protection, flags, file, 0) };
+        if start as isize == -1 {
+            return Err(io::Error::last_os_error());
+        }
+        Ok(Mapping {
+            start: start.cast(),
+            length,
+        })
+    }
+
+    /// Puts a file's start, or zeros without a file, at a place of this range.
+    fn place(&mut self, place: usize, length: usize, file: Option<&File>) -> io::Result<()> {
+        assert!(place
+            .checked_add(length)
+            .is_some_and(|end| end <= self.length));
+        if length == 0 {
+            return Ok(());
+        }
+        let flags = MAP_PRIVATE | MAP_NORESERVE | MAP_FIXED;
+        let (flags, file) = match file {
+            Some(file) => (flags, file.as_raw_fd()),
+            None => (flags | MAP_ANONYMOUS, NO_FILE),
+        };
+        // SAFETY: the range lies within this mapping, which is borrowed alone: what is replaced is not lent.
+        let at = unsafe {
+            mmap(
+                self.start.add(place).cast(),
+                length,
+                PROT_READ,
+                flags,
+                file,
+                0,
+            )
+        };
+        if at as isize == -1 {
+            return Err(io::Error::last_os_error());
+        }
+        Ok(())
+    }
+}
+
+impl Drop for Mapping {
+    fn drop(&mut self) {
+        if self.length > 0 {
+            // SAFETY: the range is this mapping's own, and whatever borrowed it has ended.
+            unsafe { munmap(self.start.cast(), self.length) };
+        }
+    }
+}
+
+/// Bytes that are only read.
+pub struct View(Mapping);
+
+impl View {
+    /// A file's first bytes.
+    pub fn of_file(file: &File, length: usize) -> io::Result<View> {
+        let mapping = Mapping::new(length, PROT_READ, 0, file.as_raw_fd())?;
+        Ok(View(mapping))
+    }
+
+    /// Files side by side as one run of bytes, `size` for each: a multiple of the page size. A shorter file is followed by
+    /// zeros up to its size.
+    pub fn of_files(files: &[(File, u64)], size: u64) -> io::Result<View> {
+        let size = usize::try_from(size).map_err(io::Error::other)?;
+        let total = size.checked_mul(files.len());
+        let total = total.ok_or_else(|| io::Error::other("too long for memory"))?;
+        let mut mapping = Mapping::new(total, PROT_NONE, MAP_ANONYMOUS, NO_FILE)?;
+        let page = page_size() as usize;
+        for (number, (file, length)) in files.iter().enumerate() {
+            // The kernel fills a file's last page with zeros; whole pages past it would not be readable.
+            let present = (*length as usize).min(size).next_multiple_of(page);
+            mapping.place(number * size, present, Some(file))?;
+            mapping.place(number * size + present, size - present, None)?;
+        }
+        Ok(View(mapping))
+    }
+}
+
+impl Deref for View {
+    type Target = [u8];
+
+    fn deref(&self) -> &[u8] {
+        // SAFETY: the whole range is readable and lives as long as self.
+        unsafe { std::slice::from_raw_parts(self.0.start, self.0.length) }
+    }
+}
+
+/// Bytes to work on. What is written stays in this mapping and reaches no file.
+pub struct Draft(Mapping);
+
+impl Draft {
+    /// A file's first bytes; a page is copied when it is first written.
+    pub fn of_file(file: &File, length: usize) -> io::Result<Draft> {
+        let mapping = Mapping::new(length, PROT_READ | PROT_WRITE, 0, file.as_raw_fd())?;
+        Ok(Draft(mapping))
+    }
+
+    /// Zeros; a page takes memory when it is first written.
+    pub fn of_zeros(length: usize) -> io::Result<Draft> {
+        let mapping = Mapping::new(length, PROT_READ | PROT_WRITE, MAP_ANONYMOUS, NO_FILE)?;
+        Ok(Draft(mapping))
+    }
+}
+
+impl Deref for Draft {
+    type Target = [u8];
+
+    fn deref(&self) -> &[u8] {
+        // SAFETY: the whole range is readable and lives as long as self.
+        unsafe { std::slice::from_raw_parts(self.0.start, self.0.length) }
+    }
+}
+
+impl DerefMut for Draft {
+    fn deref_mut(&mut self) -> &mut [u8] {
+        // SAFETY: the whole range is writable, lives as long as self and is borrowed alone.
+        unsafe { std::slice::from_raw_parts_mut(self.0.start, self.0.length) }
+    }
+}

@@ -1,0 +1,228 @@
+//! `swistopal query`: what happened to this parcel?
+
+use crate::args::Args;
+use crate::failure::{fault, usage, Failure, Outcome};
+use crate::index;
+use crate::log::Log;
+use crate::properties::Names;
+use crate::show::{self, With};
+use crate::text::{array, counted, shown, string, Object};
+use crate::time;
+use crate::{note, out};
+use std::io::Write;
+use swistopal::{query, Answer, Entry, LogPosition, Message, Query};
+
+const DEFAULT_LIMIT: u64 = 32;
+/// The index records whole seconds after its first time, rounded down: a record is asked for up to so much earlier, and then
+/// judged by its own time.
+const ROUNDED_OFF: u64 = 999;
+
+struct Found<'a> {
+    position: LogPosition,
+    length: u64,
+    message: Message<'a>,
+}
+
+/// What the index names, told apart by what stands in the log.
+#[derive(Default)]
+struct Search<'a> {
+    found: Vec<Found<'a>>,
+    same_hash_only: u64,
+    items_read: u64,
+    faults: Vec<String>,
+}
+
+pub fn run(args: &Args) -> Result<Outcome, Failure> {
+    let (topic, key) = (args.bytes("--topic")?, args.bytes("--key")?);
+    let first_time = args.time("--from")?.unwrap_or(0);
+    let last_time = args.time("--to")?.unwrap_or(time::LAST);
+    if first_time > last_time {
+        return usage("--from is later than --to");
+    }
+    if !(1..=127).contains(&topic.len()) || !(1..=32_767).contains(&key.len()) {
+        return usage("a topic has 1 to 127 bytes, a key 1 to 32,767");
+    }
+    let limit = args.number_within("--limit", 1, u64::MAX)?;
+    let limit = limit.unwrap_or(DEFAULT_LIMIT);
+    let log = Log::open(args)?;
+    let indexes = index::open_all(args)?;
+    if indexes.is_empty() {
+        return fault(format!(
+            "{}: no index in it; `swistopal rebuild` makes one from the log",
+            args.place().display()
+        ));
+    }
+
+    let mut search = Search::default();
+    // Newest first: the names are times.
+    for index in indexes.iter().rev() {
+        let missing = limit - search.found.len() as u64;
+        if missing == 0 {
+            break;
+        }
+        let ask = Query {
+            index: &index.bytes,
+            index_geometry: index.geometry,
+            topic,
+            key,
+            first_time: first_time.saturating_sub(ROUNDED_OFF),
+            last_time,
+            wanted: 0,
+        };
+        search.faults.extend(index.doubt.clone());
+        search.ask(&log, &ask, &index.name, (first_time, last_time), missing)?;
+    }
+
+    let with_body = args.flag("--body");
+    let mut out = out();
+    if args.flag("--json") {
+        let records: Vec<String> = search
+            .found
+            .iter()
+            .map(|found| show::object(found.position, found.length, &found.message, with_body))
+            .collect();
+        let faults: Vec<String> = search.faults.iter().map(|text| string(text)).collect();
+        let answer = Object::new()
+            .bytes("topic", topic)
+            .bytes("key", key)
+            .time("from", first_time)
+            .time("to", last_time)
+            .raw("records", &array(&records))
+            .number("same_hash_only", search.same_hash_only)
+            .number("items_read", search.items_read)
+            .raw("faults", &array(&faults))
+            .end();
+        writeln!(out, "{answer}")?;
+    } else if !search.found.is_empty() {
+        let with = With {
+            topic: false,
+            body: with_body,
+        };
+        show::heading(&mut out, with)?;
+        for found in &search.found {
+            show::line(&mut out, found.position, found.length, &found.message, with)?;
+        }
+    }
+    out.flush()?;
+    search.tell(topic, key);
+    if search.faults.is_empty() {
+        Ok(Outcome::Sound)
+    } else {
+        Ok(Outcome::Fault)
+    }
+}
+
+impl<'a> Search<'a> {
+    /// Asks one index. Keys that only share the hash take places in its answer, so it is asked for more until enough
+    /// records are the right ones or the chain has ended.
+    fn ask(
+        &mut self,
+        log: &'a Log,
+        question: &Query,
+        name: &str,
+        times: (u64, u64),
+        missing: u64,
+    ) -> Result<(), Failure> {
+        let most = question.index_geometry.items;
+        let mut wanted = missing.min(most);
+        loop {
+            let mut places = vec![LogPosition(0); wanted as usize];
+            let question = Query {
+                wanted,
+                ..*question
+            };
+            let queried = match query(&question, &mut places) {
+                Ok(queried) => queried,
+                Err(refusal) => {
+                    let number = refusal.number();
+                    self.faults
+                        .push(format!("index {name}: answer {number}: {refusal}"));
+                    return Ok(());
+                }
+            };
+            let mut once = Search::default();
+            once.read_back(log, &question, queried.found, name, times);
+            let enough = once.found.len() as u64 >= missing;
+            let all_seen = (queried.found.len() as u64) < wanted || wanted == most;
+            if !enough && !all_seen {
+                wanted = wanted.saturating_mul(4).min(most);
+                continue;
+            }
+            if queried.stop == Answer::ChainBroken {
+                once.faults.push(format!(
+                    "index {name}: answer 16 after {}: {}; older records may be missing here",
+                    counted(queried.items_read, "item", "items"),
+                    queried.stop
+                ));
+            }
+            once.found.truncate(missing as usize);
+            self.found.append(&mut once.found);
+            self.faults.append(&mut once.faults);
+            self.same_hash_only += once.same_hash_only;
+            self.items_read += queried.items_read;
+            return Ok(());
+        }
+    }
+
+    fn read_back(
+        &mut self,
+        log: &'a Log,
+        question: &Query,
+        positions: &[LogPosition],
+        name: &str,
+        (first_time, last_time): (u64, u64),
+    ) {
+        let mut before = None;
+        for &position in positions {
+            // A record that has the key twice has two items; they follow each other.
+            if before.replace(position) == Some(position) {
+                continue;
+            }
+            match log.entry(position) {
+                Ok(Entry::Record { length, message }) => {
+                    let carries = message.topic == question.topic
+                        && Names::of(message.properties)
+                            .index_keys()
+                            .any(|key| key == question.key);
+                    if !carries {
+                        self.same_hash_only += 1;
+                    } else if (first_time..=last_time).contains(&message.store_time) {
+                        self.found.push(Found {
+                            position,
+                            length,
+                            message,
+                        });
+                    }
+                }
+                Ok(Entry::Blank { .. }) => self.faults.push(format!(
+                    "index {name}: it names position {}, where the log has a blank",
+                    position.0
+                )),
+                Err(answer) => self.faults.push(format!(
+                    "index {name}: it names position {}, where reading the log answers {}: {answer}",
+                    position.0,
+                    answer.number()
+                )),
+            }
+        }
+    }
+
+    fn tell(&self, topic: &[u8], key: &[u8]) {
+        let found = counted(self.found.len() as u64, "record", "records");
+        let read = counted(self.items_read, "item", "items");
+        note(&format!(
+            "{found} of topic {} with key {}, newest first; {read} of the index read",
+            shown(topic),
+            shown(key)
+        ));
+        if self.same_hash_only > 0 {
+            let others = counted(self.same_hash_only, "record", "records");
+            note(&format!(
+                "{others} left out: another key with the same hash"
+            ));
+        }
+        for fault in &self.faults {
+            note(fault);
+        }
+    }
+}

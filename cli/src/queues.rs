@@ -1,0 +1,189 @@
+//! Consume queues of a store folder: consumequeue/TOPIC/QUEUE/ with files of 20-byte entries.
+
+use crate::failure::{fault, usage, At, Failure};
+use crate::log::numbered_name;
+use crate::map::View;
+use crate::text::{grouped, shown};
+use std::ffi::OsStr;
+use std::fs::{self, File};
+use std::os::unix::ffi::OsStrExt;
+use std::path::{Path, PathBuf};
+use swistopal::QueueEntries;
+
+pub const MOST_ENTRIES: u64 = 300_000;
+pub const MOST_QUEUES: usize = 16;
+pub const FIRST_FILE: &str = "00000000000000000000";
+/// RocketMQ fills places before a queue's first entry with entries of this size.
+pub const NO_RECORD: u32 = 0x7fff_ffff;
+
+/// A queue's name.
+#[derive(Clone, PartialEq, Eq, PartialOrd, Ord)]
+pub struct Queue {
+    pub topic: Vec<u8>,
+    pub id: u32,
+}
+
+impl Queue {
+    pub fn shown(&self) -> String {
+        format!("{}/{}", shown(&self.topic), self.id)
+    }
+
+    /// Its folder. A topic from a log may be any bytes; only one that is a folder's name may become a path.
+    pub fn folder(&self, consumequeue: &Path) -> Result<PathBuf, Failure> {
+        let topic = &self.topic;
+        let no_name = topic.is_empty() || topic == b"." || topic == b"..";
+        if no_name || topic.contains(&b'/') || topic.contains(&0) {
+            return fault(format!(
+                "topic {}: it cannot be the name of a folder",
+                shown(topic)
+            ));
+        }
+        let topic = OsStr::from_bytes(topic);
+        Ok(consumequeue.join(topic).join(self.id.to_string()))
+    }
+}
+
+/// One file of a queue.
+pub struct QueueFile {
+    pub path: PathBuf,
+    /// The number of its first entry.
+    pub first: u64,
+    pub bytes: View,
+    pub entries: QueueEntries,
+    /// Entries in use: those before the first one without a size.
+    pub count: u64,
+}
+
+impl QueueFile {
+    /// Places at the start that RocketMQ filled without a record.
+    pub fn without_record(&self) -> u64 {
+        let sizes = (0..self.count).map(|number| size(&self.bytes, number));
+        sizes.take_while(|size| *size == NO_RECORD).count() as u64
+    }
+}
+
+fn size(bytes: &[u8], entry: u64) -> u32 {
+    let place = (entry * QueueEntries::ENTRY_BYTES) as usize + 8;
+    let size = bytes[place..place + 4].try_into();
+    u32::from_be_bytes(size.expect("four bytes"))
+}
+
+pub fn open_file(path: PathBuf, first: u64) -> Result<QueueFile, Failure> {
+    let file = File::open(&path).at("open", &path)?;
+    let length = file.metadata().at("read", &path)?.len();
+    let entries = length / QueueEntries::ENTRY_BYTES;
+    if !length.is_multiple_of(QueueEntries::ENTRY_BYTES) || !(1..=MOST_ENTRIES).contains(&entries) {
+        return fault(format!(
+            "{}: {} bytes are no queue file; one has 20 for each of 1 to {} entries",
+            path.display(),
+            grouped(length),
+            grouped(MOST_ENTRIES)
+        ));
+    }
+    let bytes = View::of_file(&file, length as usize).at("map", &path)?;
+    let in_use = (0..entries).take_while(|number| size(&bytes, *number) != 0);
+    let count = in_use.count() as u64;
+    Ok(QueueFile {
+        path,
+        first,
+        bytes,
+        entries: QueueEntries(entries),
+        count,
+    })
+}
+
+/// A queue's files in order.
+pub fn open(store: &Path, queue: &Queue) -> Result<Vec<QueueFile>, Failure> {
+    let folder = queue.folder(&store.join("consumequeue"))?;
+    let mut found = Vec::new();
+    if folder.is_dir() {
+        for entry in fs::read_dir(&folder).at("read", &folder)? {
+            let entry = entry.at("read", &folder)?;
+            if let Some(first) = entry.file_name().to_str().and_then(numbered_name) {
+                found.push((first / QueueEntries::ENTRY_BYTES, entry.path()));
+            }
+        }
+    }
+    found.sort();
+    let opened = found
+        .into_iter()
+        .map(|(first, path)| open_file(path, first));
+    opened.collect()
+}
+
+/// The queues that have a folder, by name.
+pub fn on_disk(store: &Path) -> Result<Vec<Queue>, Failure> {
+    let mut queues = Vec::new();
+    for topic in folders(&store.join("consumequeue"))? {
+        for id in folders(&topic)? {
+            let name = id.file_name().and_then(OsStr::to_str);
+            let id = name.and_then(crate::args::number);
+            if let Some(id) = id.and_then(|id| u32::try_from(id).ok()) {
+                let topic = topic.file_name().unwrap_or_default().as_bytes().to_vec();
+                queues.push(Queue { topic, id });
+            }
+        }
+    }
+    queues.sort();
+    Ok(queues)
+}
+
+fn folders(folder: &Path) -> Result<Vec<PathBuf>, Failure> {
+    let mut found = Vec::new();
+    if folder.is_dir() {
+        for entry in fs::read_dir(folder).at("read", folder)? {
+            let path = entry.at("read", folder)?.path();
+            if path.is_dir() {
+                found.push(path);
+            }
+        }
+    }
+    Ok(found)
+}
+
+/// A file of lines `TOPIC QUEUE`; the topic as the tool shows it.
+pub fn read_list(path: &Path) -> Result<Vec<Queue>, Failure> {
+    let text = match fs::read_to_string(path) {
+        Ok(text) => text,
+        Err(error) => return usage(format!("--queues {}: {error}", path.display())),
+    };
+    let mut queues: Vec<Queue> = Vec::new();
+    for (number, line) in text.lines().enumerate() {
+        if line.trim().is_empty() {
+            continue;
+        }
+        let place = format!("{}, line {}", path.display(), number + 1);
+        let parts = line.rsplit_once(' ').and_then(|(topic, id)| {
+            let topic = crate::text::of_shown(topic)?;
+            let id = crate::args::number(id)?;
+            Some((topic, u32::try_from(id).ok().filter(|id| *id < 1 << 31)?))
+        });
+        let Some((topic, id)) = parts.filter(|(topic, _)| (1..=127).contains(&topic.len())) else {
+            return usage(format!(
+                "{place}: a line is a topic of 1 to 127 bytes, a space and a queue from 0 to 2147483647"
+            ));
+        };
+        let queue = Queue { topic, id };
+        if queues.contains(&queue) {
+            return usage(format!("{place}: {} stands twice", queue.shown()));
+        }
+        queues.push(queue);
+    }
+    if !(1..=MOST_QUEUES).contains(&queues.len()) {
+        return usage(format!(
+            "{}: {} queues; 1 to {MOST_QUEUES} can be listed",
+            path.display(),
+            queues.len()
+        ));
+    }
+    Ok(queues)
+}
+
+/// The directory that the archive is lent.
+pub fn directory(queues: &[Queue]) -> Vec<u8> {
+    let rows: Vec<(&[u8], u32)> = queues
+        .iter()
+        .map(|queue| (queue.topic.as_slice(), queue.id))
+        .collect();
+    swistopal::directory(&rows)
+}

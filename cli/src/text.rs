@@ -1,0 +1,196 @@
+//! Bytes and numbers as text that a terminal, a plan file or a JSON reader takes.
+
+use std::fmt::Write;
+
+/// Bytes as one line of text: what is printable as it is, a backslash doubled, every other byte as `\xNN`. A worn disk
+/// must not be able to write control characters to a terminal.
+pub fn shown(bytes: &[u8]) -> String {
+    let mut text = String::new();
+    for chunk in bytes.utf8_chunks() {
+        for character in chunk.valid().chars() {
+            if character == '\\' {
+                text.push_str("\\\\");
+            } else if character.is_control() {
+                let mut buffer = [0; 4];
+                push_hex_escapes(&mut text, character.encode_utf8(&mut buffer).as_bytes());
+            } else {
+                text.push(character);
+            }
+        }
+        push_hex_escapes(&mut text, chunk.invalid());
+    }
+    text
+}
+
+fn push_hex_escapes(text: &mut String, bytes: &[u8]) {
+    for byte in bytes {
+        write!(text, "\\x{byte:02x}").expect("a string takes all");
+    }
+}
+
+/// The bytes that `shown` shows so.
+pub fn of_shown(text: &str) -> Option<Vec<u8>> {
+    let mut bytes = Vec::new();
+    let mut rest = text;
+    while let Some(at) = rest.find('\\') {
+        bytes.extend(&rest.as_bytes()[..at]);
+        rest = &rest[at + 1..];
+        if let Some(after) = rest.strip_prefix('\\') {
+            bytes.push(b'\\');
+            rest = after;
+        } else {
+            let digits = rest.strip_prefix('x')?.get(..2)?;
+            bytes.push(u8::from_str_radix(digits, 16).ok()?);
+            rest = &rest[3..];
+        }
+    }
+    bytes.extend(rest.as_bytes());
+    Some(bytes)
+}
+
+/// A number with commas between thousands.
+pub fn grouped(number: u64) -> String {
+    let digits = number.to_string();
+    let mut text = String::new();
+    for (at, digit) in digits.chars().enumerate() {
+        if at > 0 && (digits.len() - at).is_multiple_of(3) {
+            text.push(',');
+        }
+        text.push(digit);
+    }
+    text
+}
+
+/// `1 record`, `2 records`.
+pub fn counted(number: u64, one: &str, many: &str) -> String {
+    format!(
+        "{} {}",
+        grouped(number),
+        if number == 1 { one } else { many }
+    )
+}
+
+/// One JSON object, field by field.
+pub struct Object(String);
+
+impl Object {
+    pub fn new() -> Object {
+        Object(String::from("{"))
+    }
+
+    pub fn raw(mut self, name: &str, value: &str) -> Object {
+        if self.0.len() > 1 {
+            self.0.push(',');
+        }
+        push_string(&mut self.0, name);
+        self.0.push(':');
+        self.0.push_str(value);
+        self
+    }
+
+    pub fn number(self, name: &str, value: u64) -> Object {
+        self.raw(name, &value.to_string())
+    }
+
+    pub fn truth(self, name: &str, value: bool) -> Object {
+        self.raw(name, if value { "true" } else { "false" })
+    }
+
+    pub fn text(self, name: &str, value: &str) -> Object {
+        let value = string(value);
+        self.raw(name, &value)
+    }
+
+    /// A string where the bytes are UTF-8, else an object with their hexadecimal digits.
+    pub fn bytes(self, name: &str, value: &[u8]) -> Object {
+        let value = of_bytes(value);
+        self.raw(name, &value)
+    }
+
+    /// Milliseconds, and the same time in RFC 3339 where that has it.
+    pub fn time(self, name: &str, time: u64) -> Object {
+        let written = crate::time::rfc3339(time).map_or(String::from("null"), |text| string(&text));
+        self.number(name, time)
+            .raw(&format!("{name}_rfc3339"), &written)
+    }
+
+    pub fn end(mut self) -> String {
+        self.0.push('}');
+        self.0
+    }
+}
+
+pub fn array<T: AsRef<str>>(values: &[T]) -> String {
+    let mut text = String::from("[");
+    for (number, value) in values.iter().enumerate() {
+        if number > 0 {
+            text.push(',');
+        }
+        text.push_str(value.as_ref());
+    }
+    text.push(']');
+    text
+}
+
+pub fn string(value: &str) -> String {
+    let mut text = String::new();
+    push_string(&mut text, value);
+    text
+}
+
+pub fn of_bytes(value: &[u8]) -> String {
+    if let Ok(text) = std::str::from_utf8(value) {
+        return string(text);
+    }
+    let mut digits = String::new();
+    for byte in value {
+        write!(digits, "{byte:02x}").expect("a string takes all");
+    }
+    Object::new().text("hex", &digits).end()
+}
+
+fn push_string(text: &mut String, value: &str) {
+    text.push('"');
+    for character in value.chars() {
+        match character {
+            '"' => text.push_str("\\\""),
+            '\\' => text.push_str("\\\\"),
+            '\u{0}'..='\u{1f}' | '\u{7f}' => {
+                write!(text, "\\u{:04x}", character as u32).expect("a string takes all")
+            }
+            _ => text.push(character),
+        }
+    }
+    text.push('"');
+}
+
+#[cfg(test)]
+mod tests {
+    use super::*;
+
+    #[test]
+    fn shown_bytes_come_back() {
+        let all: Vec<u8> = (0..=255).collect();
+        for bytes in [&all[..], b"", b"\\x41", b"C:\\", "Büro \u{85}".as_bytes()] {
+            let text = shown(bytes);
+            assert!(!text.chars().any(char::is_control));
+            assert_eq!(of_shown(&text).as_deref(), Some(bytes));
+        }
+        for text in ["\\", "\\x", "\\x4", "\\xé", "\\n"] {
+            assert_eq!(of_shown(text), None);
+        }
+    }
+
+    #[test]
+    fn numbers_are_grouped() {
+        assert_eq!(grouped(0), "0");
+        assert_eq!(grouped(999), "999");
+        assert_eq!(grouped(420_000_040), "420,000,040");
+    }
+
+    #[test]
+    fn strings_are_json() {
+        assert_eq!(string("a\"\\\n"), r#""a\"\\\u000a""#);
+        assert_eq!(of_bytes(b"\xff\x01"), r#"{"hex":"ff01"}"#);
+    }
+}
