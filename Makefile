@@ -2,6 +2,7 @@
 #
 #   make                         the archive, proved
 #   make cli                     the tool: target/bin/swistopal
+#   make tour                    all of it on a small store: demo, rebuild, query, check
 #   make install PREFIX=/usr     header, archive, swistopal.pc, lister and tool
 #   make example                 builds and runs examples/store.c
 #   make compare COUNT=20000 SEED=1   the archive against the independent model
@@ -29,7 +30,7 @@ archive := $(SWISTOPAL_LIB_DIR)/libswistopal.a
 tool_sources := $(wildcard cli/Cargo.* cli/src/*.rs bindings/rust/Cargo.* bindings/rust/*.rs bindings/rust/src/*.rs)
 sources := crates.txt $(shell find crates -name '*.rt' -o -name '*.antt')
 
-.PHONY: all install example compare mutants bench interface cli
+.PHONY: all tour install example compare mutants bench interface cli
 all: $(archive)
 
 $(built_lib_dir)/libswistopal.a: $(sources)
@@ -88,3 +89,11 @@ bench: $(archive)
 
 interface: $(archive) $(LISTER)
 	tests/interface.sh
+
+# The demo store is made anew each time.
+tour: cli
+	@rm -rf target/tour
+	target/bin/swistopal demo target/tour
+	target/bin/swistopal rebuild target/tour
+	target/bin/swistopal query target/tour --topic SORTER_DIVERT --key P000017 --body
+	target/bin/swistopal check target/tour

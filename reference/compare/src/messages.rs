@@ -136,7 +136,13 @@ fn keys_value(random: &Random) -> Vec<u8> {
     if random.one_in(6) {
         value.push(b' ');
     }
-    for number in 0..random.pick(&[0, 1, 1, 2, 2, 3, 3, 4, 9]) {
+    // At some rate about as many as the archive keeps in a list of its own.
+    let keys = if random.one_in(60) {
+        random.between(30, 36)
+    } else {
+        random.pick(&[0, 1, 1, 2, 2, 3, 3, 4, 9])
+    };
+    for number in 0..keys {
         if number > 0 {
             value.extend(b" ".repeat(random.between(1, 2) as usize));
         }
