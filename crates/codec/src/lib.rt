@@ -115,6 +115,9 @@ pub fn put_u16(s: &mut [u8], at: usize, v: u16)
     requires { ⌜ at + 2 ≤ length (now s) ⌝ }
     ensures { λ _. ⌜ now (s .exit) ≡ overwrite (now (s .entry)) at (bytesOf big 2 v) ⌝ }
 {
+    if s.len() <= at {
+        return;
+    }
     put(s, at, 2, v as u64);
 }
 
@@ -122,6 +125,9 @@ pub fn put_u32(s: &mut [u8], at: usize, v: u32)
     requires { ⌜ at + 4 ≤ length (now s) ⌝ }
     ensures { λ _. ⌜ now (s .exit) ≡ overwrite (now (s .entry)) at (bytesOf big 4 v) ⌝ }
 {
+    if s.len() <= at {
+        return;
+    }
     put(s, at, 4, v as u64);
 }
 
@@ -129,6 +135,9 @@ pub fn put_u64(s: &mut [u8], at: usize, v: u64)
     requires { ⌜ at + 8 ≤ length (now s) ⌝ }
     ensures { λ _. ⌜ now (s .exit) ≡ overwrite (now (s .entry)) at (bytesOf big 8 v) ⌝ }
 {
+    if s.len() <= at {
+        return;
+    }
     put(s, at, 8, v);
 }
 
