@@ -1,5 +1,5 @@
 -- The turns of the codec's loops. Assumes nothing.
-use Prim.Native.Nat.{ℕ, suc, _+_, _*_, _/_, _%_, _^_, _≤_, _<_, _-_}
+use Prim.Native.Nat.{ℕ, zero, suc, _+_, _*_, _/_, _%_, _^_, _≤_, _<_, _-_}
 use mathlib.Core.Path.{_≡_, refl, sym, ap, _∙_}
 use mathlib.Core.Bool.{Bool, true, false, _&&_, and-true, and-false}
 use mathlib.Core.List.{List, [], _∷_}
@@ -10,8 +10,8 @@ use lib.Dec.{eqb}
 use lib.ListN.{length, getD, take, set}
 use lib.Seq.{take-suc, take-all, length-take-le}
 use borrow.Author.Tests.{eq-eqb, ne-eqb}
-use Rattle.codec.specs.Bytes.{Order, big, little, bytesOf, valueOf, part, field, overwrite, same}
-use Rattle.codec.proofs.Numbers.{pow-pos, length-bytes, little-add}
+use Rattle.codec.specs.Bytes.{Order, big, little, bytesOf, valueOf, part, field, overwrite, same, Bytes}
+use Rattle.codec.proofs.Numbers.{pow-pos, length-bytes, bytes-value, little-add}
 use Rattle.codec.proofs.Parts.{part-none, part-cons, part-snoc, length-part, set-sets, overwrite-append}
 use Rattle.codec.proofs.Fields.{field-add, field-add-little, field-one}
 use Rattle.codec.proofs.Equal.{same-snoc}
@@ -148,3 +148,60 @@ module _ (at i : ℕ) (l piece : List ℕ) (inside : at + i < length l) (more : 
 
 pub same-whole : {equal : Bool} (at i : ℕ) (l piece : List ℕ) → i ≡ length piece → equal ≡ same (part i at l) (take i piece) → equal ≡ same (part (length piece) at l) piece
 same-whole at i l piece e h = h ∙ rw (take-all i piece (omega arith), e)
+
+-- ---- a number turned round, its lowest byte first
+
+big-small : (w v i : ℕ) → getD (bytesOf big w v) i 0 < 256
+unfolding bytesOf
+big-small zero v i = omega arith
+big-small (suc w) v zero = omega arith
+big-small (suc w) v (suc i) = big-small w v i
+
+turned-bytes : (w v x : ℕ) → x ≡ valueOf little (bytesOf big w v) → bytesOf little w x ≡ bytesOf big w v
+turned-bytes w v x e = rw e (rw (length-bytes big w v) at (bytes-value little (bytesOf big w v) (big-small w v)))
+
+sum-four : (a b c d : ℕ) → a * 16777216 + b * 65536 + c * 256 + d ≡ d + 256 * (c + 256 * (b + 256 * (a + 256 * 0)))
+sum-four a b c d = omega arith
+
+pub turned-four : (v : ℕ) {x : ℕ} → x ≡ v % 256 * 16777216 + v / 256 % 256 * 65536 + v / 65536 % 256 * 256 + v / 16777216 % 256 → bytesOf little 4 x ≡ bytesOf big 4 v
+unfolding bytesOf valueOf
+turned-four v {x} e = turned-bytes 4 v x (e ∙ (let one : v / 1 ≡ v = omega arith in rw one (sum-four (v % 256) (v / 256 % 256) (v / 65536 % 256) (v / 16777216 % 256))))
+
+one : (v : ℕ) → v / 1 ≡ v
+one v = omega arith
+
+low-0 : (v : ℕ) → v % 4294967296 % 256 ≡ v % 256
+low-0 v = omega arith
+
+low-1 : (v : ℕ) → v % 4294967296 / 256 % 256 ≡ v / 256 % 256
+low-1 v = omega arith
+
+low-2 : (v : ℕ) → v % 4294967296 / 65536 % 256 ≡ v / 65536 % 256
+low-2 v = omega arith
+
+low-3 : (v : ℕ) → v % 4294967296 / 16777216 % 256 ≡ v / 16777216 % 256
+low-3 v = omega arith
+
+high-1 : (v : ℕ) → v / 4294967296 / 256 % 256 ≡ v / 1099511627776 % 256
+high-1 v = omega arith
+
+high-2 : (v : ℕ) → v / 4294967296 / 65536 % 256 ≡ v / 281474976710656 % 256
+high-2 v = omega arith
+
+high-3 : (v : ℕ) → v / 4294967296 / 16777216 % 256 ≡ v / 72057594037927936 % 256
+high-3 v = omega arith
+
+sum-eight : (a b c d e f g h : ℕ)
+    → (a * 16777216 + b * 65536 + c * 256 + d) * 4294967296 + (e * 16777216 + f * 65536 + g * 256 + h)
+    ≡ h + 256 * (g + 256 * (f + 256 * (e + 256 * (d + 256 * (c + 256 * (b + 256 * (a + 256 * 0)))))))
+sum-eight a b c d e f g h = omega arith
+
+pub turned-eight : (v : ℕ) {a b : ℕ}
+    → a ≡ v % 4294967296 % 256 * 16777216 + v % 4294967296 / 256 % 256 * 65536 + v % 4294967296 / 65536 % 256 * 256 + v % 4294967296 / 16777216 % 256
+    → b ≡ v / 4294967296 % 256 * 16777216 + v / 4294967296 / 256 % 256 * 65536 + v / 4294967296 / 65536 % 256 * 256 + v / 4294967296 / 16777216 % 256
+    → bytesOf little 8 (a * 4294967296 + b) ≡ bytesOf big 8 v
+unfolding bytesOf valueOf
+turned-eight v {a} {b} ea eb =
+    turned-bytes 8 v (a * 4294967296 + b)
+    (rw (ea, eb, low-0 v, low-1 v, low-2 v, low-3 v, high-1 v, high-2 v, high-3 v, one v)
+    (sum-eight (v % 256) (v / 256 % 256) (v / 65536 % 256) (v / 16777216 % 256) (v / 4294967296 % 256) (v / 1099511627776 % 256) (v / 281474976710656 % 256) (v / 72057594037927936 % 256)))

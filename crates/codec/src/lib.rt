@@ -1,7 +1,7 @@
 // Unsigned numbers of 1, 2, 4 and 8 bytes at any place of a lent slice, in both byte orders; a copy and a comparison of bytes.
 // Names without a suffix are big-endian, the order of the log, the queues and the index; `_le` is little-endian, the directory's.
 ghost use mathlib.Core.Path.{_≡_};
-ghost use Prim.Native.Nat.{_+_, _≤_, _<_, _^_};
+ghost use Prim.Native.Nat.{_+_, _≤_, _<_, _^_, _*_, _/_, _%_};
 ghost use lib.ListN.{length};
 ghost use Rattle.codec.specs.Bytes.{big, little, bytesOf, field, part, overwrite, same};
 
@@ -111,6 +111,13 @@ pub fn put(s: &mut [u8], at: usize, w: usize, v: u64)
     }
 }
 
+// The low 4 bytes of v turned round: a number in the machine's own byte order then goes out in one store.
+fn turned(v: u64) -> u64
+    ensures { λ r. ⌜ (r ≡ v % 256 * 16777216 + v / 256 % 256 * 65536 + v / 65536 % 256 * 256 + v / 16777216 % 256) × (r < 4294967296) ⌝ }
+{
+    v % 256 * 16777216 + v / 256 % 256 * 65536 + v / 65536 % 256 * 256 + v / 16777216 % 256
+}
+
 pub fn put_u16(s: &mut [u8], at: usize, v: u16)
     requires { ⌜ at + 2 ≤ length (now s) ⌝ }
     ensures { λ _. ⌜ now (s .exit) ≡ overwrite (now (s .entry)) at (bytesOf big 2 v) ⌝ }
@@ -122,14 +129,19 @@ pub fn put_u32(s: &mut [u8], at: usize, v: u32)
     requires { ⌜ at + 4 ≤ length (now s) ⌝ }
     ensures { λ _. ⌜ now (s .exit) ≡ overwrite (now (s .entry)) at (bytesOf big 4 v) ⌝ }
 {
-    put(s, at, 4, v as u64);
+    put_le(s, at, 4, turned(v as u64));
 }
 
 pub fn put_u64(s: &mut [u8], at: usize, v: u64)
     requires { ⌜ at + 8 ≤ length (now s) ⌝ }
     ensures { λ _. ⌜ now (s .exit) ≡ overwrite (now (s .entry)) at (bytesOf big 8 v) ⌝ }
 {
-    put(s, at, 8, v);
+    put_le(
+        s,
+        at,
+        8,
+        turned(v % 4294967296) * 4294967296 + turned(v / 4294967296),
+    );
 }
 
 // The low w bytes of v from `at`, the lowest first.

@@ -3,6 +3,7 @@ use Prim.Native.Nat.{ℕ, _+_}
 use mathlib.Core.Path.{_≡_, refl, sym, subst, _∙_}
 use mathlib.Core.Bool.{Bool, true, false, not}
 use mathlib.Core.List.{List, []}
+use native.Mathlib.Omega.{arith}
 use lib.ListN.{length}
 use borrow.Author.Tests.{not-true, not-false, eq-eqb, ne-eqb}
 use Rattle.codec.specs.Choice.{pick}
@@ -26,7 +27,7 @@ use Rattle.dispatch.specs.declared.Duties.{Duties}
 use Rattle.dispatch.specs.declared.Plan.{Plan}
 use Rattle.dispatch.specs.declared.Stepped.the-variants.{Moved, Stopped}
 use Rattle.dispatch.specs.Dispatch.{Fixed, State, dutiesOf, entryPlan, planAnswer, tagOf, recordHashes, queuesAfter, countsAfter, filedAs, unless, fileAs, fileOf}
-use Rattle.dispatch.specs.Inner.{hashesIf, steppedOf, leftOf, positionAfter, Did}
+use Rattle.dispatch.specs.Inner.{hashesIf, CollectedIf, steppedOf, leftOf, positionAfter, Did}
 
 -- ---- the tag code
 
@@ -50,6 +51,9 @@ module _ (makes : Bool) (prefix : ℕ) (l : List ℕ) where
   hashes-made : not makes ≡ false → hashesIf makes prefix l ≡ hashes prefix (itemKeys l)
   unfolding hashesIf pick
   hashes-made h = rw (not-false makes h)
+
+  pub uncollected : (items : ℕ) (list : List ℕ) → not makes ≡ true → CollectedIf makes prefix l items list
+  uncollected items list h e = let f : true ≡ false = sym e ∙ not-true makes h in let o : _≡_ {A = ℕ} 0 1 = cc in absurd (omega arith)
 
   module _ (k n : ℕ) (index : List ℕ) (position : ℕ) where
     pub unchecked : not makes ≡ true → Done ≡ itemsAnswer k n index position (hashesIf makes prefix l)

@@ -14,7 +14,7 @@ use Rattle.record.specs.declared.Entry.the-variants.{Blank, Message}
 use Rattle.record.specs.Record.{fieldsSound}
 use Rattle.commit_log.specs.Inner.{GeometryFits, Within}
 use Rattle.consume_queue.specs.Queue.{entriesOk, queueRows, countsOk, entryPlace}
-use Rattle.index_file.specs.Inner.{Sized}
+use Rattle.index_file.specs.Inner.{Sized, Collected}
 use Rattle.index_file.specs.Items.{itemKeys, hashes, itemsAnswer}
 use Rattle.machine.specs.Steps.{Outcome, moved, stopped, Ran}
 use Rattle.machine.specs.Calls.{Call}
@@ -58,6 +58,10 @@ pub record Listed (directory : List ℕ) : Type 0 where
 -- the index hashes of the items that a record makes, from the hash of topic and `#`
 unfoldable pub hashesIf : Bool → ℕ → List ℕ → List ℕ
 hashesIf makes prefix properties = pick makes (hashes prefix (itemKeys properties)) []
+
+-- the items of a record that makes them, collected
+abbrev pub CollectedIf : Bool → ℕ → List ℕ → ℕ → List ℕ → Type 0
+CollectedIf makes prefix properties items list = makes ≡ true → Collected prefix properties items list
 
 -- the entry has its place
 unfoldable pub Enterable : Plan → ℕ → List ℕ → List ℕ → Type 0

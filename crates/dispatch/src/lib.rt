@@ -1,6 +1,7 @@
 // Dispatch: the door, one step in two stages, and the steps of a call under its budget.
 ghost use mathlib.Core.Path.{_≡_};
 ghost use Prim.Native.Nat.{_≤_};
+ghost use lib.ListN.{length};
 ghost use Rattle.units.specs.declared.Answer.the-variants.{Done};
 ghost use Rattle.properties.specs.Finder.{tagsName, finder, scanned};
 ghost use Rattle.commit_log.specs.Inner.{GeometryFits};
@@ -10,7 +11,7 @@ ghost use Rattle.index_file.specs.Items.{itemsAnswer, putAll};
 ghost use Rattle.machine.specs.Steps.{run};
 ghost use Rattle.machine.specs.Calls.{call};
 ghost use Rattle.dispatch.specs.Dispatch.{sizesFit, progressBad, transaction, duties, entryPlan, planAnswer, tagOf, queuesAfter, countsAfter, fileOf, stepOf, dispatcher};
-ghost use Rattle.dispatch.specs.Inner.{fixedOf, viewOf, stateOf, callOf, ranOf, Ready, Listed, hashesIf, Enterable, Sound, Did};
+ghost use Rattle.dispatch.specs.Inner.{fixedOf, viewOf, stateOf, callOf, ranOf, Ready, Listed, hashesIf, CollectedIf, Enterable, Sound, Did};
 use commit_log::Geometry;
 use directory::Listing;
 use directory::Located;
@@ -124,6 +125,23 @@ fn plan_answer(plan: Plan) -> Answer
     }
 }
 
+// The items of a record that makes them or not, collected.
+fn collect_index(
+    makes: bool,
+    prefix: u32,
+    properties: &[u8],
+    found: Scanned,
+    list: &mut [u32],
+) -> u64
+    requires { ⌜ (found ≡ scanned (now properties)) × (32 ≤ length (now list)) ⌝ }
+    ensures { λ r. ⌜ CollectedIf makes prefix (now (properties .entry)) r (now (list .exit)) ⌝ }
+{
+    if !makes {
+        return 0;
+    }
+    index_file::collect_items(prefix, properties, found, list)
+}
+
 // Rule 7, of a record that makes items or not.
 fn check_index(
     makes: bool,
@@ -133,14 +151,25 @@ fn check_index(
     prefix: u32,
     properties: &[u8],
     found: Scanned,
+    items: u64,
+    list: &[u32],
 ) -> Answer
-    requires { ⌜ Sized (sizes .«slot_count») (sizes .«item_count») (now index) × (found ≡ scanned (now properties)) ⌝ }
+    requires { ⌜ Sized (sizes .«slot_count») (sizes .«item_count») (now index) × (found ≡ scanned (now properties)) × CollectedIf makes prefix (now properties) items (now list) ⌝ }
     ensures { λ r. ⌜ r ≡ itemsAnswer (sizes .«slot_count») (sizes .«item_count») (now (index .entry)) (position .0) (hashesIf makes prefix (now (properties .entry))) ⌝ }
 {
     if !makes {
         return Answer::Done;
     }
-    index_file::check_items(index, sizes, position, prefix, properties, found)
+    index_file::check_items(
+        index,
+        sizes,
+        position,
+        prefix,
+        properties,
+        found,
+        items,
+        list,
+    )
 }
 
 // The tag code of TAGS' value; 0 without TAGS.
@@ -184,8 +213,10 @@ fn put_index(
     prefix: u32,
     properties: &[u8],
     found: Scanned,
+    items: u64,
+    list: &[u32],
 )
-    requires { ⌜ Sized (sizes .«slot_count») (sizes .«item_count») (now index) × (itemsAnswer (sizes .«slot_count») (sizes .«item_count») (now index) (position .0) (hashesIf makes prefix (now properties)) ≡ Done) × (found ≡ scanned (now properties)) ⌝ }
+    requires { ⌜ Sized (sizes .«slot_count») (sizes .«item_count») (now index) × (itemsAnswer (sizes .«slot_count») (sizes .«item_count») (now index) (position .0) (hashesIf makes prefix (now properties)) ≡ Done) × (found ≡ scanned (now properties)) × CollectedIf makes prefix (now properties) items (now list) ⌝ }
     ensures { λ _. ⌜ now (index .exit) ≡ putAll (sizes .«slot_count») (position .0) «store_time» (hashesIf makes prefix (now (properties .entry))) (now (index .entry)) ⌝ }
 {
     if !makes {
@@ -199,6 +230,8 @@ fn put_index(
         prefix,
         properties,
         found,
+        items,
+        list,
     );
 }
 
@@ -229,11 +262,14 @@ fn file(
     if halt.number() != 0 {
         return Stepped::Stopped(halt);
     }
-    let items = duties.items;
+    let makes = duties.items;
     let found = properties::scan(properties);
     let prefix = java_hash::topic_hash(topic);
+    let mut list = [0u32; 32];
+    let n = collect_index(makes, prefix, properties, found, &mut list);
     let p = message.position;
-    let broken = check_index(items, index, sizes.index, p, prefix, properties, found);
+    let z = sizes.index;
+    let broken = check_index(makes, index, z, p, prefix, properties, found, n, &list);
     if broken.number() != 0 {
         return Stepped::Stopped(broken);
     }
@@ -247,16 +283,8 @@ fn file(
         properties,
         tags,
     );
-    put_index(
-        items,
-        index,
-        sizes.index,
-        p,
-        message.fields.store_time,
-        prefix,
-        properties,
-        found,
-    );
+    let t = message.fields.store_time;
+    put_index(makes, index, z, p, t, prefix, properties, found, n, &list);
     let behind = p.0 + message.total;
     Stepped::Moved(LogPosition(behind))
 }

@@ -50,11 +50,11 @@ length-keysAt : (ps : List Place) (v : List ℕ) → length (keysAt ps v) ≡ le
 unfolding keysAt
 length-keysAt ps v = length-map ps (λ p. bytesAt p v)
 
-length-hashes : (prefix : ℕ) (ks : List (List ℕ)) → length (hashes prefix ks) ≡ length ks
+pub length-hashes : (prefix : ℕ) (ks : List (List ℕ)) → length (hashes prefix ks) ≡ length ks
 unfolding hashes
 length-hashes prefix ks = length-map ks (keyHash prefix)
 
-hashes-append : (prefix : ℕ) (a b : List (List ℕ)) → hashes prefix (a ++ b) ≡ hashes prefix a ++ hashes prefix b
+pub hashes-append : (prefix : ℕ) (a b : List (List ℕ)) → hashes prefix (a ++ b) ≡ hashes prefix a ++ hashes prefix b
 unfolding hashes
 hashes-append prefix [] b = refl
 hashes-append prefix (x ∷ a) b = rw (hashes-append prefix a b)
@@ -68,21 +68,27 @@ module _ (f : Found) (p : List ℕ) where
   unfolding uniqueKey pick
   unique-some e = rw e
 
--- the count of a record's items, from that of the parts of KEYS
-module _ (found : Scanned) (p v : List ℕ) (count : ℕ) (e : found ≡ scanned p) (ev : v ≡ valueOf (found .keys) p) (ec : count ≡ length (keyPlaces v)) where
-  keys-count : length (itemKeys p) ≡ length (uniqueKey (found .«unique_key») p) + count
-  unfolding itemKeys keysIn
-  keys-count =
-      rw (← e, length-append (uniqueKey (found .«unique_key») p) (keysAt (keyPlaces (valueOf (found .keys) p)) (valueOf (found .keys) p)), length-keysAt (keyPlaces (valueOf (found .keys) p)) (valueOf (found .keys) p), ec, ev)
+  pub unique-few : length (uniqueKey f p) ≤ 1
+  unfolding uniqueKey pick
+  unique-few = go (isFound f)
+    where
+      go : (b : Bool) → length (pick b (valueOf f p ∷ []) []) ≤ 1
+      go true = omega arith
+      go false = omega arith
 
-  pub keys-bound : 2 * count ≤ length p + 1
-  keys-bound = let a = keys-few v in let b : length v ≤ length p = rw ev (length-value-le (found .keys) p) in rw ec (omega arith)
+-- a record's items, as found
+pub keys-all : (found : Scanned) (p : List ℕ) → found ≡ scanned p
+    → itemKeys p ≡ uniqueKey (found .«unique_key») p ++ keysAt (keyPlaces (valueOf (found .keys) p)) (valueOf (found .keys) p)
+unfolding itemKeys keysIn
+keys-all found p e = rw (← e)
 
-  pub count-some : isFound (found .«unique_key») ≡ true → (count + 1 ≡ length (itemKeys p)) × (2 * (count + 1) ≤ length p + 3)
-  count-some u = let b = keys-bound in (sym (keys-count ∙ rw (unique-some (found .«unique_key») p u) (omega arith)), omega arith)
-
-  pub count-none : isFound (found .«unique_key») ≡ false → (count ≡ length (itemKeys p)) × (2 * count ≤ length p + 3)
-  count-none u = let b = keys-bound in (sym (keys-count ∙ rw (unique-none (found .«unique_key») p u) (omega arith)), omega arith)
+pub items-few : (p : List ℕ) → 2 * length (itemKeys p) ≤ length p + 3
+items-few p =
+    let v = valueOf (scanned p .keys) p in
+    let a = unique-few (scanned p .«unique_key») p in
+    let b = keys-few v in
+    let c = length-value-le (scanned p .keys) p in
+    rw (keys-all (scanned p) p refl, length-append, length-keysAt) (omega arith)
 
 -- ---- the slots
 
@@ -139,8 +145,7 @@ module _ (k : ℕ) (l : List ℕ) where
     module _ (found : Scanned) (p v : List ℕ) (e : found ≡ scanned p) (ev : v ≡ valueOf (found .keys) p) where
       slots-all : anyBadSlot k l (hashes prefix (itemKeys p))
           ≡ (anyBadSlot k l (hashes prefix (uniqueKey (found .«unique_key») p)) || anyBadSlot k l (hashes prefix (keysAt (keyPlaces v) v)))
-      unfolding itemKeys keysIn
-      slots-all = rw (← e, ev, hashes-append prefix (uniqueKey (found .«unique_key») p) (keysAt (keyPlaces (valueOf (found .keys) p)) (valueOf (found .keys) p))) (bad-append _ _)
+      slots-all = rw (keys-all found p e, ev, hashes-append prefix (uniqueKey (found .«unique_key») p) (keysAt (keyPlaces (valueOf (found .keys) p)) (valueOf (found .keys) p))) (bad-append _ _)
 
       pub slots-rest : {u r : Bool} → u ≡ anyBadSlot k l (hashes prefix (uniqueKey (found .«unique_key») p)) → u ≡ false
           → r ≡ anyBadSlot k l (hashes prefix (keysAt (keyPlaces v) v)) → r ≡ anyBadSlot k l (hashes prefix (itemKeys p))
@@ -236,12 +241,8 @@ module _ (k n position time : ℕ) where
 
     -- those of all
     module _ (found : Scanned) (p v : List ℕ) (l : List ℕ) (e : found ≡ scanned p) (r : Room k n l (length (itemKeys p))) where
-      keys-all : itemKeys p ≡ uniqueKey (found .«unique_key») p ++ keysAt (keyPlaces (valueOf (found .keys) p)) (valueOf (found .keys) p)
-      unfolding itemKeys keysIn
-      keys-all = rw (← e)
-
       room-both : Room k n l (length (uniqueKey (found .«unique_key») p) + length (keyPlaces (valueOf (found .keys) p)))
-      room-both = rw (keys-all, length-append, length-keysAt) at r
+      room-both = rw (keys-all found p e, length-append, length-keysAt) at r
 
       pub room-first : Room k n l (length (uniqueKey (found .«unique_key») p))
       room-first =
@@ -253,7 +254,7 @@ module _ (k n position time : ℕ) where
         room-second = rw (em, ev) (room-after (hashes prefix (uniqueKey (found .«unique_key») p)) l (length (keyPlaces (valueOf (found .keys) p))) (rw length-hashes room-both))
 
         pub put-both : {q : List ℕ} → q ≡ putAll k position time (hashes prefix (keysAt (keyPlaces v) v)) m → q ≡ putAll k position time (hashes prefix (itemKeys p)) l
-        put-both eq = eq ∙ rw (em, ev, keys-all, hashes-append) (sym (put-append _ _ l))
+        put-both eq = eq ∙ rw (em, ev, keys-all found p e, hashes-append) (sym (put-append _ _ l))
 
 -- ---- the answer
 

@@ -4,6 +4,7 @@ pub mod Judged
 pub mod Walks
 pub mod Turns
 pub mod Items
+pub mod Listed
 pub mod Chain
 pub mod History
 pub mod Exact

@@ -1,7 +1,8 @@
 // The index file: an item put, a record's items checked and put, a query by key and time.
 ghost use mathlib.Core.Path.{_≡_};
 ghost use Prim.Native.Nat.{_+_, _*_, _<_, _≤_};
-ghost use lib.ListN.{length};
+ghost use mathlib.Core.List.{[], _∷_};
+ghost use lib.ListN.{length, take};
 ghost use Rattle.codec.specs.Bytes.{overwrite};
 ghost use Rattle.java_hash.specs.Hash.{keyHash, slotOf};
 ghost use Rattle.units.specs.declared.Place.{Place};
@@ -12,7 +13,7 @@ ghost use Rattle.index_file.specs.Index.{usedCount, sizesOk, headerSound
 ghost use Rattle.index_file.specs.Walk.{criteriaOf, search};
 ghost use Rattle.index_file.specs.Query.{wantedOf, queryOk, reported, queried};
 ghost use Rattle.index_file.specs.Items.{isFound, uniqueKey, keysAt, itemKeys, hashes, isAhead, badSlot, anyBadSlot, itemsAnswer, putAll};
-ghost use Rattle.index_file.specs.Inner.{verdictOf, Room, Sized, SlotPlace};
+ghost use Rattle.index_file.specs.Inner.{verdictOf, Room, Sized, SlotPlace, Added, Collected};
 use properties::Found;
 use properties::Key;
 use properties::Scanned;
@@ -436,22 +437,64 @@ fn key_slots_bad(index: &[u8], slot_count: u64, prefix: u32, keys: &[u8]) -> boo
     }
 }
 
-// The number of a record's items.
-fn count_items(properties: &[u8], found: Scanned) -> u64
-    requires { ⌜ found ≡ scanned (now properties) ⌝ }
-    ensures { λ r. ⌜ (r ≡ length (itemKeys (now (properties .entry)))) × (2 * r ≤ length (now (properties .entry)) + 3) ⌝ }
+// One key more: its hash is made and kept while the list has a place for it.
+fn add_key(prefix: u32, key: &[u8], number: u64, list: &mut [u32]) -> u64
+    requires { ⌜ (number < 9223372036854775808) × (32 ≤ length (now list)) ⌝ }
+    ensures { λ r. ⌜ Added (keyHash prefix (now (key .entry)) ∷ []) number (now (list .entry)) r (now (list .exit)) ⌝ }
 {
-    let keys = found.keys;
-    let count = properties::key_count(properties::value(properties, keys)) as u64;
-    let unique_key = found.unique_key;
-    if is_found(unique_key) {
-        count + 1
-    } else {
-        count
+    if 32 <= number {
+        return number + 1;
     }
+    let at = number as usize;
+    list[at] = java_hash::key_hash(prefix, key);
+    number + 1
 }
 
-// Whether a slot that a record's items need is bad.
+// The unique key, if there is one.
+fn collect_unique(prefix: u32, properties: &[u8], found: Found, list: &mut [u32]) -> u64
+    requires { ⌜ Inside (length (now properties)) found × (32 ≤ length (now list)) ⌝ }
+    ensures { λ r. ⌜ Added (hashes prefix (uniqueKey found (now (properties .entry)))) 0 (now (list .entry)) r (now (list .exit)) ⌝ }
+{
+    if !is_found(found) {
+        return 0;
+    }
+    add_key(prefix, properties::value(properties, found), 0, list)
+}
+
+// The parts of KEYS, behind the first ones of the list.
+fn collect_keys(prefix: u32, keys: &[u8], first: u64, list: &mut [u32]) -> u64
+    requires { ⌜ (first ≤ 1) × (32 ≤ length (now list)) ⌝ }
+    ensures { λ r. ⌜ Added (hashes prefix (keysAt (keyPlaces (now (keys .entry))) (now (keys .entry)))) first (now (list .entry)) r (now (list .exit)) ⌝ }
+{
+    let mut number = first;
+    let mut at: usize = 0;
+    loop {
+        let next = properties::next_key(keys, at);
+        match next {
+            Key::Done => break,
+            Key::Next(key) => {
+                let begin = key.at;
+                let end = begin + key.len;
+                number = add_key(prefix, &keys[begin..end], number, list);
+                at = end;
+            }
+        }
+    }
+    number
+}
+
+// A record's items in one walk: their number, and in the list the hashes of as many as it has places for.
+pub fn collect_items(prefix: u32, properties: &[u8], found: Scanned, list: &mut [u32]) -> u64
+    requires { ⌜ (found ≡ scanned (now properties)) × (32 ≤ length (now list)) ⌝ }
+    ensures { λ r. ⌜ Collected prefix (now (properties .entry)) r (now (list .exit)) ⌝ }
+{
+    let unique_key = found.unique_key;
+    let first = collect_unique(prefix, properties, unique_key, list);
+    let keys = found.keys;
+    collect_keys(prefix, properties::value(properties, keys), first, list)
+}
+
+// Whether a slot that a record's items need is bad, from the keys.
 fn slots_bad(index: &[u8], slot_count: u64, prefix: u32, properties: &[u8], found: Scanned) -> bool
     requires { ⌜ (0 < «slot_count») × («slot_count» ≤ 5000000) × (40 + 4 * «slot_count» ≤ length (now index)) × (found ≡ scanned (now properties)) ⌝ }
     ensures { λ r. ⌜ r ≡ anyBadSlot «slot_count» (now (index .entry)) (hashes prefix (itemKeys (now (properties .entry)))) ⌝ }
@@ -467,6 +510,41 @@ fn slots_bad(index: &[u8], slot_count: u64, prefix: u32, properties: &[u8], foun
         prefix,
         properties::value(properties, keys),
     )
+}
+
+// Whether a slot of the list's first n hashes is bad.
+fn listed_slots_bad(index: &[u8], slot_count: u64, list: &[u32], n: usize) -> bool
+    requires { ⌜ (0 < «slot_count») × («slot_count» ≤ 5000000) × (40 + 4 * «slot_count» ≤ length (now index)) × (n ≤ 32) × (32 ≤ length (now list)) ⌝ }
+    ensures { λ r. ⌜ r ≡ anyBadSlot «slot_count» (now (index .entry)) (take n (now (list .entry))) ⌝ }
+{
+    let mut i: usize = 0;
+    while i < n {
+        let hash = list[i];
+        if slot_bad(index, slot_count, hash) {
+            return true;
+        }
+        i += 1;
+    }
+    false
+}
+
+// The same of a record's items: from the list, if it holds them all.
+fn items_slots_bad(
+    index: &[u8],
+    slot_count: u64,
+    prefix: u32,
+    properties: &[u8],
+    found: Scanned,
+    items: u64,
+    list: &[u32],
+) -> bool
+    requires { ⌜ (0 < «slot_count») × («slot_count» ≤ 5000000) × (40 + 4 * «slot_count» ≤ length (now index)) × (found ≡ scanned (now properties)) × Collected prefix (now properties) items (now list) ⌝ }
+    ensures { λ r. ⌜ r ≡ anyBadSlot «slot_count» (now (index .entry)) (hashes prefix (itemKeys (now (properties .entry)))) ⌝ }
+{
+    if items <= 32 {
+        return listed_slots_bad(index, slot_count, list, items as usize);
+    }
+    slots_bad(index, slot_count, prefix, properties, found)
 }
 
 // Whether the index has an item and the position is not above its last one.
@@ -485,11 +563,12 @@ pub fn check_items(
     prefix: u32,
     properties: &[u8],
     found: Scanned,
+    items: u64,
+    list: &[u32],
 ) -> Answer
-    requires { ⌜ Sized (sizes .«slot_count») (sizes .«item_count») (now index) × (found ≡ scanned (now properties)) ⌝ }
+    requires { ⌜ Sized (sizes .«slot_count») (sizes .«item_count») (now index) × (found ≡ scanned (now properties)) × Collected prefix (now properties) items (now list) ⌝ }
     ensures { λ r. ⌜ r ≡ itemsAnswer (sizes .«slot_count») (sizes .«item_count») (now (index .entry)) (position .0) (hashes prefix (itemKeys (now (properties .entry)))) ⌝ }
 {
-    let items = count_items(properties, found);
     if items == 0 {
         return Answer::Done;
     }
@@ -499,7 +578,8 @@ pub fn check_items(
     if sizes.item_count < used_count(index) as u64 + items {
         return Answer::IndexFull;
     }
-    if slots_bad(index, sizes.slot_count, prefix, properties, found) {
+    let k = sizes.slot_count;
+    if items_slots_bad(index, k, prefix, properties, found, items, list) {
         return Answer::ChainBroken;
     }
     Answer::Done
@@ -557,8 +637,8 @@ fn put_keys(
     }
 }
 
-// A record's items: first the unique key, then the parts of KEYS.
-pub fn put_items(
+// A record's items from the keys: first the unique key, then the parts of KEYS.
+fn put_found(
     index: &mut [u8],
     sizes: IndexSizes,
     position: LogPosition,
@@ -588,5 +668,55 @@ pub fn put_items(
         store_time,
         prefix,
         properties::value(properties, keys),
+    );
+}
+
+// An item for each of the list's first n hashes.
+fn put_listed(
+    index: &mut [u8],
+    sizes: IndexSizes,
+    position: LogPosition,
+    store_time: u64,
+    list: &[u32],
+    n: usize,
+)
+    requires { ⌜ Room (sizes .«slot_count») (sizes .«item_count») (now index) n × (n ≤ 32) × (32 ≤ length (now list)) ⌝ }
+    ensures { λ _. ⌜ now (index .exit) ≡ putAll (sizes .«slot_count») (position .0) «store_time» (take n (now (list .entry))) (now (index .entry)) ⌝ }
+{
+    let mut i: usize = 0;
+    while i < n {
+        let listed = list[i];
+        put_item(index, sizes, listed, position, store_time);
+        i += 1;
+    }
+}
+
+// A record's items: from the list, if it holds them all.
+pub fn put_items(
+    index: &mut [u8],
+    sizes: IndexSizes,
+    position: LogPosition,
+    store_time: u64,
+    prefix: u32,
+    properties: &[u8],
+    found: Scanned,
+    items: u64,
+    list: &[u32],
+)
+    requires { ⌜ Room (sizes .«slot_count») (sizes .«item_count») (now index) (length (itemKeys (now properties))) × (found ≡ scanned (now properties)) × Collected prefix (now properties) items (now list) ⌝ }
+    ensures { λ _. ⌜ now (index .exit) ≡ putAll (sizes .«slot_count») (position .0) «store_time» (hashes prefix (itemKeys (now (properties .entry)))) (now (index .entry)) ⌝ }
+{
+    if items <= 32 {
+        put_listed(index, sizes, position, store_time, list, items as usize);
+        return;
+    }
+    put_found(
+        index,
+        sizes,
+        position,
+        store_time,
+        prefix,
+        properties,
+        found,
     );
 }

@@ -1,4 +1,5 @@
 -- `dispatch::check_index` meets its contract. Assumes nothing.
+use borrow.Author.Tests.{not-false}
 use Rattle.dispatch.proofs.Filing.{unchecked, checked}
 use Rattle.dispatch.proofs.check_index.Statement.{statement}
 use Rattle.dispatch.proofs.check_index.Tie as tie
@@ -7,7 +8,7 @@ returns : tie.Need-returns
 returns c = unchecked _ _ _ _ _ _ _ (c .if1 .taken)
 
 check-items-requires : tie.Need-check-items-requires
-check-items-requires c κs = c .before .before .before .pre
+check-items-requires c κs = let p = c .before .before .before .before .pre in (p .0, p .1, p .2 (not-false _ (c .if1 .left)))
 
 returns-2 : tie.Need-returns-2
 returns-2 c = checked _ _ _ _ _ _ _ (c .before .if1 .left) (c .check-items .ensures)

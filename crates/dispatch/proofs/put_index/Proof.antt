@@ -1,4 +1,5 @@
 -- `dispatch::put_index` meets its contract. Assumes nothing.
+use borrow.Author.Tests.{not-false}
 use Rattle.dispatch.proofs.Filing.{room-of, unput, put-made}
 use borrow.Author.Needs.{needs}
 use Rattle.dispatch.proofs.put_index.Statement.{statement}
@@ -9,8 +10,9 @@ returns c = unput _ _ _ _ _ _ _ (c .if1 .taken)
 
 put-items-requires : tie.Need-put-items-requires
 put-items-requires c κs =
-    let p = c .before .before .before .before .pre in
-    (room-of _ _ _ _ _ _ _ (c .before .if1 .left) (p .0) (p .1), p .2)
+    let p = c .before .before .before .before .before .pre in
+    let m = c .before .if1 .left in
+    (room-of _ _ _ _ _ _ _ m (p .0) (p .1), p .2, p .3 (not-false _ m))
 
 returns-2 : tie.Need-returns-2
 returns-2 c = put-made _ _ _ _ _ _ _ (c .before .before .before .before .if1 .left) (c .before .before .put-items .ensures)

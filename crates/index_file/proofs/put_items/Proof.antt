@@ -1,28 +1,23 @@
--- `index_file::put_items` meets its contract: the unique key's item, then those of the parts of KEYS. Assumes nothing.
-use Rattle.properties.proofs.Places.{keys-inside, unique-key-inside}
-use Rattle.index_file.proofs.Items.{room-first, room-second, put-both}
+-- `index_file::put_items` meets its contract. Assumes nothing.
+use Rattle.index_file.proofs.Listed.{room-listed, put-listed}
 use borrow.Author.Needs.{needs}
 use Rattle.index_file.proofs.put_items.Statement.{statement}
 use Rattle.index_file.proofs.put_items.Tie as tie
 
-put-unique-requires : tie.Need-put-unique-requires
-put-unique-requires c κs =
-    let s = c .before .before .before in
-    (room-first _ _ 0 0 0 _ _ (s .args .properties .now) _ (s .pre .1) (s .pre .0), unique-key-inside _ (s .pre .1))
-
-value-requires : tie.Need-value-requires
-value-requires c κs = keys-inside _ (c .before .before .before .before .before .before .before .pre .1)
-
-put-keys-requires : tie.Need-put-keys-requires
-put-keys-requires c κs =
-    let s = c .before .before .before .before .before .before .before .before in
-    room-second _ _ _ _ _ _ _ _ _ (s .pre .1) (s .pre .0) (c .before .before .before .before .put-unique .ensures) (c .value .ensures)
+put-listed-requires : tie.Need-put-listed-requires
+put-listed-requires c κs =
+    let p = c .before .before .before .before .before .pre in
+    (room-listed _ _ _ _ _ _ _ (p .2) (p .0), c .before .if1 .taken, p .2 .long)
 
 returns : tie.Need-returns
-returns c =
-    let s = c .before .before .before .before .before .before .before .before .before .before .before in
-    put-both _ _ _ _ _ _ _ _ _ (s .pre .1) (s .pre .0) (c .before .before .before .before .before .before .before .put-unique .ensures) (c .before .before .before .value .ensures) (c .before .before .put-keys .ensures)
+returns c = put-listed _ 0 _ _ _ _ _ (c .before .before .before .before .before .before .before .before .pre .2) _ _ (c .before .before .before .before .if1 .taken) (c .before .before .put-listed .ensures)
+
+put-found-requires : tie.Need-put-found-requires
+put-found-requires c κs = let p = c .before .before .before .before .before .pre in (p .0, p .1)
+
+returns-2 : tie.Need-returns-2
+returns-2 c = c .before .before .put-found .ensures
 
 pub put-items-spec : {M : Type 1} → statement M
 put-items-spec =
-    tie.close (tie.spec put-unique-requires value-requires put-keys-requires (search needs) returns)
+    tie.close (tie.spec put-listed-requires (search needs) returns put-found-requires (search needs) returns-2)
