@@ -1,6 +1,9 @@
 //! Times the archive behind the C interface against fast plain Rust that does the same with the same checks. The sides
 //! run in turn on the same buffers; answers, numbers and bytes are compared before a job is timed.
 
+// The lister is not timed.
+#[allow(dead_code)]
+#[path = "../../compare/src/archive.rs"]
 mod archive;
 mod data;
 mod effort;
