@@ -7,12 +7,12 @@ use native.Mathlib.Omega.{arith}
 use native.Mathlib.Nat.{add-zero, div-div-eq-div-mul, pow-le-pow-right, pow-suc, lt-of-lt-of-le}
 use native.Mathlib.Numerals.{add-one}
 use lib.Dec.{eqb}
-use lib.ListN.{length, getD, take, set}
-use lib.Seq.{take-suc, take-all, length-take-le}
+use lib.ListN.{length, getD, take, drop, set}
+use lib.Seq.{take-suc, take-all, take-add, length-take-le}
 use borrow.Author.Tests.{eq-eqb, ne-eqb}
 use Rattle.codec.specs.Bytes.{Order, big, little, bytesOf, valueOf, part, field, overwrite, same, Bytes}
 use Rattle.codec.proofs.Numbers.{pow-pos, length-bytes, bytes-value, little-add}
-use Rattle.codec.proofs.Parts.{part-none, part-cons, part-snoc, length-part, set-sets, overwrite-append}
+use Rattle.codec.proofs.Parts.{part-none, part-whole, part-cons, part-snoc, part-inside, length-part, set-sets, length-overwrite, overwrite-append, overwrite-then}
 use Rattle.codec.proofs.Fields.{field-add, field-add-little, field-one}
 use Rattle.codec.proofs.Equal.{same-snoc}
 
@@ -124,6 +124,28 @@ unfolding overwrite
 copy-next l at src i h =
     rw (add-one, take-suc src i 0 h)
     (rw (length-take-le i src (omega arith)) at (overwrite-append l at (take i src) (getD src i 0 ∷ [])))
+
+pub copy-whole : {l₁ : List ℕ} (l : List ℕ) (at : ℕ) (src : List ℕ) (i : ℕ) → length src ≤ i → l₁ ≡ overwrite l at (take i src) → l₁ ≡ overwrite l at src
+copy-whole l at src i h p = p ∙ rw (take-all i src h)
+
+-- a list stands at the front of what it was copied to
+pub copy-back : {l₁ : List ℕ} (l src : List ℕ) → length src ≤ length l → l₁ ≡ overwrite l 0 src → take (length src) l₁ ≡ src
+unfolding part
+copy-back l src h p = rw p (part-inside (length src) 0 l 0 src (omega arith) (omega arith) ∙ part-whole src)
+
+-- the piece from i to e fits, and goes on from those before it
+module _ {l₁ : List ℕ} {to : ℕ} (l : List ℕ) (at : ℕ) (src : List ℕ) (i e : ℕ) (order : i ≤ e) (inside : e ≤ length src) (place : to ≡ at + i) (done : l₁ ≡ overwrite l at (take i src)) where
+  pub copy-fits : (m : ℕ) → at + length src ≤ length l → e ≤ i + m → (to + length (take (e - i) (drop i src)) ≤ length l₁) × (length (take (e - i) (drop i src)) ≤ m)
+  unfolding part
+  copy-fits m h k =
+      let n : length (take (e - i) (drop i src)) ≡ e - i = length-part (e - i) i src (omega arith) in
+      rw (n, done, length-overwrite) (omega arith)
+
+  pub copy-more : {l₂ : List ℕ} → l₂ ≡ overwrite l₁ to (take (e - i) (drop i src)) → l₂ ≡ overwrite l at (take e src)
+  copy-more p =
+      let n : length (take i src) ≡ i = length-take-le i src (omega arith) in
+      let m : i + (e - i) ≡ e = omega arith in
+      overwrite-then l at (take i src) (take (e - i) (drop i src)) done p (rw n place) ∙ ap (overwrite l at) (sym (rw m at (take-add i (e - i) src)))
 
 -- ---- comparing
 
