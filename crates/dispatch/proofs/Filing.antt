@@ -1,5 +1,5 @@
 -- Rules 5 to 7 together: the ways through filing. Assumes nothing.
-use Prim.Native.Nat.{ℕ, _+_}
+use Prim.Native.Nat.{ℕ, _+_, _≤_}
 use mathlib.Core.Path.{_≡_, refl, sym, subst, _∙_}
 use mathlib.Core.Bool.{Bool, true, false, not}
 use mathlib.Core.List.{List, []}
@@ -19,15 +19,16 @@ use Rattle.properties.specs.declared.Scanned.{Scanned}
 use Rattle.properties.specs.Finder.{tagsName, finder, scanned, valueOf}
 use Rattle.record.specs.declared.Record.{Record}
 use Rattle.consume_queue.specs.Queue.{entryBytes}
-use Rattle.index_file.specs.Inner.{Room, Sized}
+use Rattle.index_file.specs.Inner.{Room, Sized, Collected}
 use Rattle.index_file.specs.Items.{itemKeys, hashes, itemsAnswer, putAll}
-use Rattle.index_file.proofs.Items.{checked-items, item-hashes}
+use Rattle.index_file.proofs.Items.{length-hashes, checked-items, item-hashes}
 use Rattle.machine.specs.Steps.{Outcome, moved, stopped}
 use Rattle.dispatch.specs.declared.Duties.{Duties}
 use Rattle.dispatch.specs.declared.Plan.{Plan}
 use Rattle.dispatch.specs.declared.Stepped.the-variants.{Moved, Stopped}
 use Rattle.dispatch.specs.Dispatch.{Fixed, State, dutiesOf, entryPlan, planAnswer, tagOf, recordHashes, queuesAfter, countsAfter, filedAs, unless, fileAs, fileOf}
 use Rattle.dispatch.specs.Inner.{hashesIf, CollectedIf, steppedOf, leftOf, positionAfter, Did}
+use Rattle.dispatch.specs.Ahead.{Gathered}
 
 -- ---- the tag code
 
@@ -79,6 +80,18 @@ unfolding recordHashes hashesIf pick
 hashes-record true topic l = sym (item-hashes topic l)
 hashes-record false topic l = refl
 
+-- ---- a record's hashes, in a list
+
+module _ (makes : Bool) (topic l list : List ℕ) where
+  pub gathered-none : not makes ≡ true → Gathered (recordHashes makes topic l) 0 list
+  unfolding recordHashes pick
+  gathered-none h = rw (not-true makes h) (record { number = refl; listed = λ (k : 0 ≤ length list). refl })
+
+  pub gathered : {prefix items : ℕ} → not makes ≡ false → prefix ≡ topicHash topic → Collected prefix l items list → Gathered (recordHashes makes topic l) items list
+  gathered {prefix} {items} h e c =
+      let f : recordHashes makes topic l ≡ hashes prefix (itemKeys l) = hashes-record makes topic l ∙ rw (← e) (hashes-made makes prefix l h) in
+      record { number = c .number ∙ rw f (sym (length-hashes prefix (itemKeys l))); listed = λ (k : items ≤ length list). c .listed k ∙ sym f }
+
 -- ---- answers
 
 done-of : (a : Answer) → numberOf a ≡ 0 → a ≡ Done
@@ -119,8 +132,8 @@ module _ (f : Fixed) (m : Record) (topic l : List ℕ) (s : State) (d : Duties) 
     pub file-broken : (b ≡ 0 → ⊥) → Did (fileOf f m topic l s) s (Stopped broken) (s .counts) (s .queues) (s .index)
     file-broken h = did-stopped (fileOf f m topic l s) s broken (way-broken h)
 
-    module _ (sound : b ≡ 0) (tags : Found) (counts queues index : List ℕ) (found : tags ≡ finder tagsName l) (grown : counts ≡ countsAfter plan (s .counts))
-        (entered : queues ≡ queuesAfter plan (f .sizes .entries) (s .counts) (entryBytes (m .position) (m .total) (tagOf tags l)) (s .queues))
+    module _ (sound : b ≡ 0) (tags : Found) (tag : ℕ) (counts queues index : List ℕ) (found : tags ≡ finder tagsName l) (coded : tag ≡ tagOf tags l)
+        (grown : counts ≡ countsAfter plan (s .counts)) (entered : queues ≡ queuesAfter plan (f .sizes .entries) (s .counts) (entryBytes (m .position) (m .total) tag) (s .queues))
         (put : index ≡ putAll (f .sizes .index .«slot_count») (m .position .0) (m .fields .«store_time») (hashesIf (d .items) prefix l) (s .index)) where
       way-filed : fileOf f m topic l s ≡ moved (record { position = record { 0 = m .position .0 + m .total }; counts = counts; queues = queues; index = index })
       unfolding fileOf fileAs filedAs unless pick
@@ -137,6 +150,7 @@ module _ (f : Fixed) (m : Record) (topic l : List ℕ) (s : State) (d : Duties) 
             ← counted,
             eq-eqb b 0 sound,
             ← found,
+            ← coded,
             ← grown,
             ← entered,
             ← put,

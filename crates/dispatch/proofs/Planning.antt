@@ -14,6 +14,7 @@ use Rattle.codec.specs.Bytes.{overwrite}
 use Rattle.codec.specs.Choice.{pick}
 use Rattle.units.specs.declared.Answer.the-variants.{QueueUnlisted, QueueOutOfStep, QueueFull}
 use Rattle.units.specs.declared.LogPosition.{LogPosition}
+use Rattle.units.specs.declared.QueueOffset.{QueueOffset}
 use Rattle.directory.specs.declared.Listing.{Listing}
 use Rattle.directory.specs.declared.Listing.the-variants.{Refused, Rows}
 use Rattle.directory.specs.declared.Located.{Located}
@@ -28,6 +29,7 @@ use Rattle.dispatch.specs.declared.Plan.{Plan}
 use Rattle.dispatch.specs.declared.Plan.the-variants.{Halt, Skip, Enter}
 use Rattle.dispatch.specs.Dispatch.{Fixed, duties, rowPlan, entryPlan, queuesAfter, countsAfter}
 use Rattle.dispatch.specs.Inner.{Ready, Listed, Enterable}
+use Rattle.dispatch.specs.Ahead.{rowNumber, rowCode, planFor}
 use Rattle.dispatch.proofs.Plan.{the-type}
 
 -- ---- rule 5
@@ -51,33 +53,78 @@ module _ (type : ℕ) where
 
 -- ---- rule 6
 
-module _ (makes : Bool) (r : ℕ) (d counts : List ℕ) (m : Record) (topic : List ℕ) where
-  pub plan-none : not makes ≡ true → Skip ≡ entryPlan makes r d counts m topic
-  unfolding entryPlan pick
-  plan-none h = rw (not-true makes h)
+module _ (row offset r : ℕ) (counts : List ℕ) where
+  pub plan-none : row ≡ 17 → Skip ≡ planFor row offset r counts
+  unfolding planFor pick
+  plan-none e = rw e
 
-  module _ (made : not makes ≡ false) (x : Located) (e : x ≡ rowOf topic (m .fields .«queue_id») d) where
-    pub plan-unlisted : x ≡ Unlisted → Halt QueueUnlisted ≡ entryPlan makes r d counts m topic
-    unfolding entryPlan rowPlan pick
-    plan-unlisted f = rw (not-false makes made, ← e, f)
+  pub plan-unlisted : row ≡ 16 → Halt QueueUnlisted ≡ planFor row offset r counts
+  unfolding planFor pick
+  plan-unlisted e = rw e
 
-    module _ (i : ℕ) (f : x ≡ Row i) where
-      pub plan-apart : (m .fields .«queue_offset» .0 ≡ getD counts i 0 → ⊥) → Halt QueueOutOfStep ≡ entryPlan makes r d counts m topic
-      unfolding entryPlan rowPlan pick
-      plan-apart a = rw (not-false makes made, ← e, f, ne-eqb (m .fields .«queue_offset» .0) (getD counts i 0) a)
+  module _ (made : row ≡ 17 → ⊥) (listed : row ≡ 16 → ⊥) where
+    pub plan-apart : (offset ≡ getD counts row 0 → ⊥) → Halt QueueOutOfStep ≡ planFor row offset r counts
+    unfolding planFor pick
+    plan-apart a = rw (ne-eqb row 17 made, ne-eqb row 16 listed, ne-eqb offset (getD counts row 0) a)
 
-      module _ (step : m .fields .«queue_offset» .0 ≡ getD counts i 0) where
-        pub plan-full : getD counts i 0 ≡ r → Halt QueueFull ≡ entryPlan makes r d counts m topic
-        unfolding entryPlan rowPlan pick
-        plan-full a = rw (not-false makes made, ← e, f, eq-eqb (m .fields .«queue_offset» .0) (getD counts i 0) step, eq-eqb (getD counts i 0) r a)
+    module _ (step : offset ≡ getD counts row 0) where
+      pub plan-full : getD counts row 0 ≡ r → Halt QueueFull ≡ planFor row offset r counts
+      unfolding planFor pick
+      plan-full a = rw (ne-eqb row 17 made, ne-eqb row 16 listed, eq-eqb offset (getD counts row 0) step, eq-eqb (getD counts row 0) r a)
 
-        pub plan-enter : (getD counts i 0 ≡ r → ⊥) → Enter i ≡ entryPlan makes r d counts m topic
-        unfolding entryPlan rowPlan pick
-        plan-enter a = rw (not-false makes made, ← e, f, eq-eqb (m .fields .«queue_offset» .0) (getD counts i 0) step, ne-eqb (getD counts i 0) r a)
+      pub plan-enter : (getD counts row 0 ≡ r → ⊥) → Enter row ≡ planFor row offset r counts
+      unfolding planFor pick
+      plan-enter a = rw (ne-eqb row 17 made, ne-eqb row 16 listed, eq-eqb offset (getD counts row 0) step, ne-eqb (getD counts row 0) r a)
+
+module _ (makes : Bool) (x : Located) where
+  pub code-none : not makes ≡ true → 17 ≡ rowCode makes x
+  unfolding rowCode pick
+  code-none h = rw (not-true makes h)
+
+  pub code-unlisted : {y : Located} → not makes ≡ false → y ≡ x → y ≡ Unlisted → 16 ≡ rowCode makes x
+  unfolding rowCode rowNumber pick
+  code-unlisted h e f = rw (not-false makes h, ← e, f)
+
+  pub code-row : {y : Located} {i : ℕ} → not makes ≡ false → y ≡ x → y ≡ Row i → i ≡ rowCode makes x
+  unfolding rowCode rowNumber pick
+  code-row h e f = rw (not-false makes h, ← e, f)
 
 -- the row that is found is one of 16
 pub row-small : (topic : List ℕ) (id : ℕ) (d : List ℕ) (i : ℕ) {x : Located} → Listed d → x ≡ rowOf topic id d → x ≡ Row i → i < 16
 row-small topic id d i l e f = let w = row-found topic id d i (sym e ∙ f) .within in omega (arith, l .few)
+
+row-plan : (r : ℕ) (counts : List ℕ) (o : QueueOffset) (x : Located) → ((i : ℕ) → x ≡ Row i → i < 16) → rowPlan r counts o x ≡ planFor (rowNumber x) (o .0) r counts
+unfolding rowPlan planFor rowNumber pick
+row-plan r counts o Unlisted h = refl
+row-plan r counts o (Row i) h =
+    let l = h i refl in
+    rw (ne-eqb i 17 (λ (e : i ≡ 17). omega arith), ne-eqb i 16 (λ (e : i ≡ 16). omega arith))
+
+-- rule 6 of a record is that of its row's number
+pub plan-record : (makes : Bool) (r : ℕ) (d counts : List ℕ) (m : Record) (topic : List ℕ) → Listed d
+    → entryPlan makes r d counts m topic ≡ planFor (rowCode makes (rowOf topic (m .fields .«queue_id») d)) (m .fields .«queue_offset» .0) r counts
+unfolding entryPlan rowCode planFor pick
+plan-record true r d counts m topic l =
+    row-plan r counts (m .fields .«queue_offset») (rowOf topic (m .fields .«queue_id») d) (λ i e. row-small topic (m .fields .«queue_id») d i l refl e)
+plan-record false r d counts m topic l = refl
+
+-- and so is the plan that was made of the number
+pub plan-coded : (makes : Bool) (r : ℕ) (d counts : List ℕ) (m : Record) (topic : List ℕ) {row : ℕ} {plan : Plan} → Listed d
+    → row ≡ rowCode makes (rowOf topic (m .fields .«queue_id») d) → plan ≡ planFor row (m .fields .«queue_offset» .0) r counts → plan ≡ entryPlan makes r d counts m topic
+plan-coded makes r d counts m topic l e f = f ∙ rw e (sym (plan-record makes r d counts m topic l))
+
+number-small : (x : Located) → ((i : ℕ) → x ≡ Row i → i < 16) → rowNumber x < 18
+unfolding rowNumber
+number-small Unlisted h = omega arith
+number-small (Row i) h = let l = h i refl in omega arith
+
+small-code : (makes : Bool) (topic : List ℕ) (id : ℕ) (d : List ℕ) → Listed d → rowCode makes (rowOf topic id d) < 18
+unfolding rowCode pick
+small-code true topic id d l = number-small (rowOf topic id d) (λ i e. row-small topic id d i l refl e)
+small-code false topic id d l = omega arith
+
+pub code-small : (makes : Bool) (topic : List ℕ) (id : ℕ) (d : List ℕ) {row : ℕ} → Listed d → row ≡ rowCode makes (rowOf topic id d) → row < 18
+code-small makes topic id d l e = rw e (small-code makes topic id d l)
 
 -- ---- the room for an entry
 
@@ -108,6 +155,12 @@ module _ (f : Fixed) (counts queues index : List ℕ) (g : Ready f counts queues
       let w = region (g .rows) r i (getD counts i 0 + 1) (getD counts i 0) (k .0) small h (omega arith) (omega arith) in
       (omega arith, small, omega arith, omega arith)
 
+  found-row : (topic : List ℕ) (id i : ℕ) → rowOf topic id (f .directory) ≡ Row i → i < g .rows
+  found-row topic id i e =
+      let l = listing-rows (f .directory) (g .rows) (listing-of (f .directory) (f .sizes .entries) (length queues) (g .rows) (g .listed)) in
+      let w = row-found topic id (f .directory) i e .within in
+      omega arith
+
   found-enterable : (topic : List ℕ) (m : Record) (x : Located) → rowOf topic (m .fields .«queue_id») (f .directory) ≡ x
       → Enterable (rowPlan (f .sizes .entries) counts (m .fields .«queue_offset») x) (f .sizes .entries) counts queues
   unfolding rowPlan Enterable pick
@@ -119,15 +172,33 @@ module _ (f : Fixed) (counts queues index : List ℕ) (g : Ready f counts queues
       go true t h = tt
       go false true h = tt
       go false false h =
-          let l = listing-rows (f .directory) (g .rows) (listing-of (f .directory) (f .sizes .entries) (length queues) (g .rows) (g .listed)) in
-          let w = row-found topic (m .fields .«queue_id») (f .directory) i e .within in
-          row-enterable i (omega arith) (eqb-false (getD counts i 0) (f .sizes .entries) h)
+          row-enterable i (found-row topic (m .fields .«queue_id») i e) (eqb-false (getD counts i 0) (f .sizes .entries) h)
 
   pub enterable : (makes : Bool) (topic : List ℕ) (m : Record) (plan : Plan) → plan ≡ entryPlan makes (f .sizes .entries) (f .directory) counts m topic
       → Enterable plan (f .sizes .entries) counts queues
   unfolding entryPlan pick Enterable
   enterable true topic m plan e = rw e (found-enterable topic m (rowOf topic (m .fields .«queue_id») (f .directory)) refl)
   enterable false topic m plan e = rw e tt
+
+  -- the region of the row of a record's entry
+  row-region : (i : ℕ) → i < g .rows → (i * f .sizes .entries + f .sizes .entries) * 20 ≤ length queues
+  row-region i h =
+      let r = f .sizes .entries in
+      let k = rows-known (f .directory) r (length queues) (g .rows) (sym (g .listed)) in
+      let w = region (g .rows) r i r 0 (k .0) (entries-within r (g .entries) .1) h (omega arith) (omega arith) in
+      omega (arith, k .1)
+
+  number-region : (topic : List ℕ) (id : ℕ) (x : Located) → rowOf topic id (f .directory) ≡ x → rowNumber x < 16
+      → (rowNumber x * f .sizes .entries + f .sizes .entries) * 20 ≤ length queues
+  unfolding rowNumber
+  number-region topic id Unlisted e h = absurd (omega arith)
+  number-region topic id (Row i) e h = row-region i (found-row topic id i e)
+
+  pub code-region : (makes : Bool) (topic : List ℕ) (id : ℕ) → rowCode makes (rowOf topic id (f .directory)) < 16
+      → (rowCode makes (rowOf topic id (f .directory)) * f .sizes .entries + f .sizes .entries) * 20 ≤ length queues
+  unfolding rowCode pick
+  code-region true topic id h = number-region topic id (rowOf topic id (f .directory)) refl h
+  code-region false topic id h = absurd (omega arith)
 
 -- ---- the entry
 
@@ -146,10 +217,10 @@ module _ (plan : Plan) (r : ℕ) (counts queues : List ℕ) (i : ℕ) (e : plan 
       let q = subst (λ (x : Plan). Enterable x r counts queues) e h in
       record { row = q .0; few = q .1; under = q .2; small = product-small i r (omega arith) (q .1); within = q .3 }
 
-  pub entered-queues : (position : LogPosition) (total : ℕ) {tag tag′ : ℕ} {queues′ : List ℕ} → tag ≡ tag′ → queues′ ≡ overwrite queues ((i * r + getD counts i 0) * 20) (entryBytes position total tag)
-      → queues′ ≡ queuesAfter plan r counts (entryBytes position total tag′) queues
+  pub entered-queues : (position : LogPosition) (total tag : ℕ) {queues′ : List ℕ} → queues′ ≡ overwrite queues ((i * r + getD counts i 0) * 20) (entryBytes position total tag)
+      → queues′ ≡ queuesAfter plan r counts (entryBytes position total tag) queues
   unfolding queuesAfter entryPlace
-  entered-queues position total f g = g ∙ rw (e, f)
+  entered-queues position total tag g = g ∙ rw e
 
 pub entered-counts : (plan : Plan) (counts : List ℕ) (i : ℕ) → plan ≡ Enter i → set counts i (getD counts i 0 + 1) ≡ countsAfter plan counts
 unfolding countsAfter

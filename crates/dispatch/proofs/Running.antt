@@ -22,7 +22,7 @@ use Rattle.record.specs.declared.Record.{Record}
 use Rattle.consume_queue.specs.Queue.{countsOk}
 use Rattle.index_file.proofs.Items.{checked-room, put-all-sized}
 use Rattle.machine.specs.Steps.{Outcome, moved, stopped, walk, run}
-use Rattle.machine.proofs.Steps.{walk-zero, walk-more, run-spent, run-stopped}
+use Rattle.machine.proofs.Steps.{walk-zero, walk-add, walk-more, walk-keeps, run-spent, run-stopped}
 use Rattle.dispatch.specs.declared.Plan.{Plan}
 use Rattle.dispatch.specs.declared.Plan.the-variants.{Halt, Skip, Enter}
 use Rattle.dispatch.specs.declared.Stepped.{Stepped}
@@ -134,18 +134,25 @@ module _ (f : Fixed) (v : View) (s : State) (b : ℕ) where
   pub going-start : Sound f v s → Going f v s s 0 b
   going-start h = record { walked = walk-zero (stepOf f v) s; sound = h; queued = refl; indexed = refl; within = omega arith }
 
+  module _ (t : State) (k : ℕ) (g : Going f v s t k b) where
+    -- m steps more
+    pub going-far : (m : ℕ) {u : State} → walk (stepOf f v) m t ≡ moved u → k + m ≤ b → Going f v s u (k + m) b
+    going-far m {u} w l =
+        let h = walk-keeps (stepOf f v) (Sound f v) (sound-kept f v) m t u (g .sound) w in
+        record {
+          walked = walk-add (stepOf f v) k m s (g .walked) ∙ w;
+          sound = h;
+          queued = walk-keeps (stepOf f v) (λ (x : State). length (x .queues) ≡ length (s .queues)) (λ x y e d. queues-kept f v x y d ∙ e) m t u (g .queued) w;
+          indexed = h .ready .sized .long ∙ sym (g .sound .ready .sized .long) ∙ g .indexed;
+          within = l;
+        }
+
+    pub going-step : {u : State} → stepOf f v t ≡ moved u → k < b → Going f v s u (k + 1) b
+    going-step e l = going-far 1 (walk-more (stepOf f v) 0 t (walk-zero (stepOf f v) t) e) (omega arith)
+
   module _ (t : State) (k : ℕ) (g : Going f v s t k b) {r : Stepped} {counts queues index : List ℕ} where
     pub going-on : {q : LogPosition} → Did (stepOf f v t) t r counts queues index → r ≡ Moved q → k < b → Going f v s (stateOf q counts queues index) (k + 1) b
-    going-on d e l =
-        let m = did-move (stepOf f v t) d e in
-        let h = sound-kept f v t _ (g .sound) m in
-        record {
-          walked = walk-more (stepOf f v) k s (g .walked) m;
-          sound = h;
-          queued = queues-kept f v t _ m ∙ g .queued;
-          indexed = h .ready .sized .long ∙ sym (g .sound .ready .sized .long) ∙ g .indexed;
-          within = omega arith;
-        }
+    going-on d e l = going-step t k g (did-move (stepOf f v t) d e) l
 
     pub going-stop : {a : Answer} → Did (stepOf f v t) t r counts queues index → r ≡ Stopped a → k < b
         → record { answer = a; steps = k; state = stateOf (t .position) counts queues index } ≡ run (stepOf f v) b s

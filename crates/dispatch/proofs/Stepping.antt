@@ -16,6 +16,7 @@ use Rattle.record.specs.declared.Entry.{Entry}
 use Rattle.record.specs.declared.Entry.the-variants.{Stop, Blank, Message}
 use Rattle.record.proofs.Soundness.{blank-padded, message-framed, message-sound}
 use Rattle.commit_log.specs.Log.{seen, entryWithin}
+use Rattle.commit_log.specs.Inner.{GeometryFits, Within}
 use Rattle.machine.specs.Steps.{Outcome, moved, stopped}
 use Rattle.dispatch.specs.declared.Stepped.{Stepped}
 use Rattle.dispatch.specs.declared.Stepped.the-variants.{Moved, Stopped}
@@ -33,16 +34,45 @@ unfolding steppedOf leftOf positionAfter
 did-move o s t e = record { ended = rw e; left = rw e }
 
 -- a record that was read lies in the log, and so do its topic and properties
-pub record Found (f : Fixed) (v : View) (s : State) (m : Record) : Type 0 where
-  pub here : m .position ≡ s .position
+pub record Found (f : Fixed) (v : View) (p : LogPosition) (m : Record) : Type 0 where
+  pub here : m .position ≡ p
   pub most : m .total ≤ 4194304
-  pub topic : s .position .0 - f .sizes .geometry .«first_position» + m .topic .at + m .topic .len ≤ length (v .log)
-  pub properties : s .position .0 - f .sizes .geometry .«first_position» + m .properties .at + m .properties .len ≤ length (v .log)
+  pub topic : p .0 - f .sizes .geometry .«first_position» + m .topic .at + m .topic .len ≤ length (v .log)
+  pub properties : p .0 - f .sizes .geometry .«first_position» + m .properties .at + m .properties .len ≤ length (v .log)
   pub small : length (v .log) ≤ 1099511627776
   pub low : m .position .0 ≤ 1099511627776
+  pub below : p .0 + m .total ≤ v .end .0
+
+pub message-found : (f : Fixed) (v : View) (p : LogPosition) {y : Entry} {m : Record} → GeometryFits (f .sizes .geometry) (length (v .log)) → Within (f .sizes .geometry) (length (v .log)) p (v .end)
+    → y ≡ entryWithin (v .log) (f .sizes .geometry) p (v .end) → y ≡ Message m → Found f v p m
+unfolding entryWithin
+message-found f v p {m} geometry within is e =
+    let k = message-framed _ _ _ m (sym is ∙ e) in
+    let w = message-sound _ _ _ m (sym is ∙ e) in
+    let own = length-take-le (m .total) (seen (v .log) (f .sizes .geometry) p (v .end)) (k .below) in
+    let below = seen-most (v .log) (f .sizes .geometry) p (v .end) in
+    let l = w .lengths .whole in
+    let ta = w .topic-at in
+    let qa = w .properties-at in
+    let kl = k .least in
+    let kb = k .below in
+    let g = geometry .top in
+    let a = within .from in
+    let b = within .to in
+    let d = within .end in
+    let q : m .position .0 ≡ p .0 = ap (λ p. p .0) (sym (w .position-is)) in
+    record {
+      here = sym (w .position-is);
+      most = k .most;
+      topic = omega arith;
+      properties = omega arith;
+      small = omega arith;
+      low = omega arith;
+      below = omega arith;
+    }
 
 -- a part that is lent
-lent : (a n : ℕ) (l : List ℕ) → take (a + n - a) (drop a l) ≡ part n a l
+pub lent : (a n : ℕ) (l : List ℕ) → take (a + n - a) (drop a l) ≡ part n a l
 unfolding part
 lent a n l = let e : a + n - a ≡ n = omega arith in rw e
 
@@ -59,30 +89,8 @@ module _ (f : Fixed) (v : View) (s : State) (h : Sound f v s) where
         let b = blank-padded _ _ _ n (sym is ∙ e) in
         omega (arith, h .within .to, b .1 .below, seen-most (v .log) (f .sizes .geometry) (s .position) (v .end))
 
-    pub found : {m : Record} → y ≡ Message m → Found f v s m
-    unfolding entryWithin
-    found {m} e =
-        let k = message-framed _ _ _ m (sym is ∙ e) in
-        let w = message-sound _ _ _ m (sym is ∙ e) in
-        let own = length-take-le (m .total) (seen (v .log) (f .sizes .geometry) (s .position) (v .end)) (k .below) in
-        let below = seen-most (v .log) (f .sizes .geometry) (s .position) (v .end) in
-        let l = w .lengths .whole in
-        let ta = w .topic-at in
-        let qa = w .properties-at in
-        let kb = k .below in
-        let g = h .geometry .top in
-        let a = h .within .from in
-        let b = h .within .to in
-        let d = h .within .end in
-        let q : m .position .0 ≡ s .position .0 = ap (λ p. p .0) (sym (w .position-is)) in
-        record {
-          here = sym (w .position-is);
-          most = k .most;
-          topic = omega arith;
-          properties = omega arith;
-          small = omega arith;
-          low = omega arith;
-        }
+    pub found : {m : Record} → y ≡ Message m → Found f v (s .position) m
+    found e = message-found f v (s .position) (h .geometry) (h .within) is e
 
     module _ (before : s .position .0 ≡ v .end .0 → ⊥) where
       pub at-stop : {a : Answer} → y ≡ Stop a → Did (stepOf f v s) s (Stopped a) (s .counts) (s .queues) (s .index)

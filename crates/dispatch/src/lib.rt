@@ -1,17 +1,20 @@
-// Dispatch: the door, one step in two stages, and the steps of a call under its budget.
+// Dispatch: the door, one step in two stages, records read ahead and filed, and the steps of a call under its budget.
 ghost use mathlib.Core.Path.{_≡_};
-ghost use Prim.Native.Nat.{_≤_};
-ghost use lib.ListN.{length};
+ghost use mathlib.Core.Bool.{true, false};
+ghost use Prim.Native.Nat.{ℕ, _+_, _*_, _≤_, _<_};
+ghost use lib.ListN.{length, take};
 ghost use Rattle.units.specs.declared.Answer.the-variants.{Done};
 ghost use Rattle.properties.specs.Finder.{tagsName, finder, scanned};
-ghost use Rattle.commit_log.specs.Inner.{GeometryFits};
+ghost use Rattle.directory.specs.Directory.{rowOf};
+ghost use Rattle.commit_log.specs.Inner.{GeometryFits, Within};
 ghost use Rattle.consume_queue.specs.Queue.{entryBytes};
 ghost use Rattle.index_file.specs.Inner.{Sized};
-ghost use Rattle.index_file.specs.Items.{itemsAnswer, putAll};
-ghost use Rattle.machine.specs.Steps.{run};
+ghost use Rattle.index_file.specs.Items.{anyBadSlot, itemsAnswer, putAll};
+ghost use Rattle.machine.specs.Steps.{walk, moved, run};
 ghost use Rattle.machine.specs.Calls.{call};
-ghost use Rattle.dispatch.specs.Dispatch.{sizesFit, progressBad, transaction, duties, entryPlan, planAnswer, tagOf, queuesAfter, countsAfter, fileOf, stepOf, dispatcher};
+ghost use Rattle.dispatch.specs.Dispatch.{sizesFit, progressBad, transaction, duties, dutiesOf, recordHashes, planAnswer, tagOf, queuesAfter, countsAfter, fileOf, stepOf, dispatcher};
 ghost use Rattle.dispatch.specs.Inner.{fixedOf, viewOf, stateOf, callOf, ranOf, Ready, Listed, hashesIf, CollectedIf, Enterable, Sound, Did};
+ghost use Rattle.dispatch.specs.Ahead.{rowCode, planFor, requestOf, requestAt, Gathered, NextIs, Batched, Filable, Files};
 use commit_log::Geometry;
 use directory::Listing;
 use directory::Located;
@@ -56,7 +59,46 @@ enum Stepped {
     Stopped(Answer),
 }
 
+// A record as filing needs it, in numbers: RocketMQ's dispatch request. The row is that of its entry, 16 if its queue is not listed, 17 if it
+// makes no entry; the items are counted, their hashes are in a list.
+struct DispatchRequest {
+    total: u64,
+    row: u64,
+    queue_offset: u64,
+    tag_code: u64,
+    store_time: u64,
+    items: usize,
+}
+
+// What stands at a position: a record, or anything else.
+enum Next {
+    Other,
+    Request(DispatchRequest),
+}
+
+// How many records were read ahead, and how many items they have.
+struct Batch {
+    records: usize,
+    items: usize,
+}
+
+// The position behind the steps of an advance, and their number.
+struct Advanced {
+    position: LogPosition,
+    steps: u64,
+}
+
 const ENTRY: usize = 20;
+
+const UNLISTED: u64 = 16;
+
+const NO_ENTRY: u64 = 17;
+
+// The most records that are read ahead.
+const BATCH: usize = 16;
+
+// The numbers of a request.
+const REQUEST: usize = 6;
 
 // What a record with this system flag makes.
 fn duties_of(system_flag: u32) -> Duties
@@ -83,35 +125,41 @@ fn duties_of(system_flag: u32) -> Duties
     }
 }
 
-// Rule 6, of a record that makes an entry or not.
-fn plan_entry(
-    makes: bool,
-    entries: u64,
-    directory: &[u8],
-    counts: &[u64; 16],
-    message: Record,
-    topic: &[u8],
-) -> Plan
+// The row of a record's entry, if it makes one.
+fn row_code(makes: bool, directory: &[u8], topic: &[u8], queue_id: u32) -> u64
     requires { ⌜ Listed (now directory) ⌝ }
-    ensures { λ r. ⌜ r ≡ entryPlan makes entries (now (directory .entry)) (now (counts .entry)) message (now (topic .entry)) ⌝ }
+    ensures { λ r. ⌜ r ≡ rowCode makes (rowOf (now (topic .entry)) «queue_id» (now (directory .entry))) ⌝ }
 {
     if !makes {
+        return NO_ENTRY;
+    }
+    let located = directory::lookup(directory, topic, queue_id);
+    match located {
+        Located::Unlisted => UNLISTED,
+        Located::Row(row) => row as u64,
+    }
+}
+
+// Rule 6, of a record that makes an entry in a row, or none.
+fn plan_entry(row: u64, queue_offset: u64, entries: u64, counts: &[u64; 16]) -> Plan
+    requires { ⌜ row < 18 ⌝ }
+    ensures { λ r. ⌜ r ≡ planFor row «queue_offset» entries (now (counts .entry)) ⌝ }
+{
+    if row == NO_ENTRY {
         return Plan::Skip;
     }
-    let located = directory::lookup(directory, topic, message.fields.queue_id);
-    match located {
-        Located::Unlisted => Plan::Halt(Answer::QueueUnlisted),
-        Located::Row(row) => {
-            let count = counts[row];
-            if message.fields.queue_offset.0 != count {
-                return Plan::Halt(Answer::QueueOutOfStep);
-            }
-            if count == entries {
-                return Plan::Halt(Answer::QueueFull);
-            }
-            Plan::Enter(row)
-        }
+    if row == UNLISTED {
+        return Plan::Halt(Answer::QueueUnlisted);
     }
+    let i = row as usize;
+    let count = counts[i];
+    if queue_offset != count {
+        return Plan::Halt(Answer::QueueOutOfStep);
+    }
+    if count == entries {
+        return Plan::Halt(Answer::QueueFull);
+    }
+    Plan::Enter(i)
 }
 
 // Rule 6's answer.
@@ -132,8 +180,8 @@ fn collect_index(
     properties: &[u8],
     found: Scanned,
     list: &mut [u32],
-) -> u64
-    requires { ⌜ (found ≡ scanned (now properties)) × (32 ≤ length (now list)) ⌝ }
+) -> usize
+    requires { ⌜ found ≡ scanned (now properties) ⌝ }
     ensures { λ r. ⌜ CollectedIf makes prefix (now (properties .entry)) r (now (list .exit)) ⌝ }
 {
     if !makes {
@@ -151,7 +199,7 @@ fn check_index(
     prefix: u32,
     properties: &[u8],
     found: Scanned,
-    items: u64,
+    items: usize,
     list: &[u32],
 ) -> Answer
     requires { ⌜ Sized (sizes .«slot_count») (sizes .«item_count») (now index) × (found ≡ scanned (now properties)) × CollectedIf makes prefix (now properties) items (now list) ⌝ }
@@ -186,20 +234,19 @@ fn enter(
     queues: &mut [u8],
     counts: &mut [u64; 16],
     entries: u64,
-    message: Record,
-    properties: &[u8],
-    tags: Found,
+    position: LogPosition,
+    total: u64,
+    tag_code: u64,
 )
-    requires { ⌜ Enterable plan entries (now counts) (now queues) × (message .total ≤ 4194304) × (tags ≡ finder tagsName (now properties)) ⌝ }
-    ensures { λ _. ⌜ (now (queues .exit) ≡ queuesAfter plan entries (now (counts .entry)) (entryBytes (message .position) (message .total) (tagOf tags (now (properties .entry)))) (now (queues .entry))) × (now (counts .exit) ≡ countsAfter plan (now (counts .entry))) ⌝ }
+    requires { ⌜ Enterable plan entries (now counts) (now queues) × (total ≤ 4194304) ⌝ }
+    ensures { λ _. ⌜ (now (queues .exit) ≡ queuesAfter plan entries (now (counts .entry)) (entryBytes position total «tag_code») (now (queues .entry))) × (now (counts .exit) ≡ countsAfter plan (now (counts .entry))) ⌝ }
 {
     let Plan::Enter(row) = plan else {
         return;
     };
     let count = counts[row];
     let at = (row * (entries as usize) + (count as usize)) * ENTRY;
-    let tag_code = tag_of(properties, tags);
-    consume_queue::write_entry(queues, at, message.position, message.total as u32, tag_code);
+    consume_queue::write_entry(queues, at, position, total as u32, tag_code);
     counts[row] = count + 1;
 }
 
@@ -213,7 +260,7 @@ fn put_index(
     prefix: u32,
     properties: &[u8],
     found: Scanned,
-    items: u64,
+    items: usize,
     list: &[u32],
 )
     requires { ⌜ Sized (sizes .«slot_count») (sizes .«item_count») (now index) × (itemsAnswer (sizes .«slot_count») (sizes .«item_count») (now index) (position .0) (hashesIf makes prefix (now properties)) ≡ Done) × (found ≡ scanned (now properties)) × CollectedIf makes prefix (now properties) items (now list) ⌝ }
@@ -250,14 +297,9 @@ fn file(
     ensures { λ r. ⌜ Did (fileOf (fixedOf sizes (now (directory .entry))) message (now (topic .entry)) (now (properties .entry)) (stateOf (message .position) (now (counts .entry)) (now (queues .entry)) (now (index .entry)))) (stateOf (message .position) (now (counts .entry)) (now (queues .entry)) (now (index .entry))) r (now (counts .exit)) (now (queues .exit)) (now (index .exit)) ⌝ }
 {
     let duties = duties_of(message.fields.system_flag);
-    let plan = plan_entry(
-        duties.entry,
-        sizes.entries,
-        directory,
-        counts,
-        message,
-        topic,
-    );
+    let row = row_code(duties.entry, directory, topic, message.fields.queue_id);
+    let offset = message.fields.queue_offset.0;
+    let plan = plan_entry(row, offset, sizes.entries, counts);
     let halt = plan_answer(plan);
     if halt.number() != 0 {
         return Stepped::Stopped(halt);
@@ -274,14 +316,15 @@ fn file(
         return Stepped::Stopped(broken);
     }
     let tags = found.tags;
+    let tag_code = tag_of(properties, tags);
     enter(
         plan,
         queues,
         counts,
         sizes.entries,
-        message,
-        properties,
-        tags,
+        p,
+        message.total,
+        tag_code,
     );
     let t = message.fields.store_time;
     put_index(makes, index, z, p, t, prefix, properties, found, n, &list);
@@ -332,6 +375,236 @@ fn step(
     }
 }
 
+// The hashes of a record's items, if it makes any: their number, and in the list as many as it has places for.
+fn gather_hashes(
+    makes: bool,
+    topic: &[u8],
+    properties: &[u8],
+    found: Scanned,
+    list: &mut [u32],
+) -> usize
+    requires { ⌜ found ≡ scanned (now properties) ⌝ }
+    ensures { λ r. ⌜ Gathered (recordHashes makes (now (topic .entry)) (now (properties .entry))) r (now (list .exit)) ⌝ }
+{
+    if !makes {
+        return 0;
+    }
+    index_file::collect_items(java_hash::topic_hash(topic), properties, found, list)
+}
+
+// A record's request; the hashes of its items go to the list's front.
+fn request_of(
+    message: Record,
+    topic: &[u8],
+    properties: &[u8],
+    directory: &[u8],
+    list: &mut [u32],
+) -> DispatchRequest
+    requires { ⌜ Listed (now directory) ⌝ }
+    ensures { λ r. ⌜ (r ≡ requestOf (now (directory .entry)) message (now (topic .entry)) (now (properties .entry))) × Gathered (recordHashes (dutiesOf message .items) (now (topic .entry)) (now (properties .entry))) (r .items) (now (list .exit)) ⌝ }
+{
+    let duties = duties_of(message.fields.system_flag);
+    let row = row_code(duties.entry, directory, topic, message.fields.queue_id);
+    let found = properties::scan(properties);
+    let tags = found.tags;
+    let tag_code = tag_of(properties, tags);
+    let items = gather_hashes(duties.items, topic, properties, found, list);
+    DispatchRequest {
+        total: message.total,
+        row,
+        queue_offset: message.fields.queue_offset.0,
+        tag_code,
+        store_time: message.fields.store_time,
+        items,
+    }
+}
+
+// The record at a position, if one can be read there; the hashes of its items go to the list's front.
+fn next_request(
+    log: &[u8],
+    readable_end: LogPosition,
+    sizes: Sizes,
+    directory: &[u8],
+    position: LogPosition,
+    list: &mut [u32],
+) -> Next
+    requires { ⌜ GeometryFits (sizes .geometry) (length (now log)) × Within (sizes .geometry) (length (now log)) position «readable_end» × Listed (now directory) ⌝ }
+    ensures { λ r. ⌜ NextIs (fixedOf sizes (now (directory .entry))) (viewOf (now (log .entry)) «readable_end») position r (now (list .exit)) ⌝ }
+{
+    let p = position.0;
+    if p == readable_end.0 {
+        return Next::Other;
+    }
+    let geometry = sizes.geometry;
+    let entry = commit_log::entry_within(log, geometry, position, readable_end);
+    let Entry::Message(message) = entry else {
+        return Next::Other;
+    };
+    let at = (p - geometry.first_position) as usize;
+    let topic_at = at + message.topic.at;
+    let topic_end = topic_at + message.topic.len;
+    let properties_at = at + message.properties.at;
+    let properties_end = properties_at + message.properties.len;
+    Next::Request(request_of(
+        message,
+        &log[topic_at..topic_end],
+        &log[properties_at..properties_end],
+        directory,
+        list,
+    ))
+}
+
+// Request n, kept.
+fn put_request(requests: &mut [u64], n: usize, request: DispatchRequest)
+    requires { ⌜ 6 * n + 6 ≤ length (now requests) ⌝ }
+    ensures { λ _. ⌜ (requestAt (now (requests .exit)) n ≡ request) × ((i : ℕ) → i < n → requestAt (now (requests .exit)) i ≡ requestAt (now (requests .entry)) i) ⌝ }
+{
+    let at = REQUEST * n;
+    requests[at] = request.total;
+    requests[at + 1] = request.row;
+    requests[at + 2] = request.queue_offset;
+    requests[at + 3] = request.tag_code;
+    requests[at + 4] = request.store_time;
+    requests[at + 5] = request.items as u64;
+}
+
+// Request n, as it was kept.
+fn request_at(requests: &[u64; 96], n: usize) -> DispatchRequest
+    requires { ⌜ n < 16 ⌝ }
+    ensures { λ r. ⌜ r ≡ requestAt (now (requests .entry)) n ⌝ }
+{
+    let at = REQUEST * n;
+    let items = requests[at + 5] as usize;
+    DispatchRequest {
+        total: requests[at],
+        row: requests[at + 1],
+        queue_offset: requests[at + 2],
+        tag_code: requests[at + 3],
+        store_time: requests[at + 4],
+        items,
+    }
+}
+
+// The records from a position on, as far as they can be read and the list has places for their hashes, up to so many.
+fn read_ahead(
+    log: &[u8],
+    readable_end: LogPosition,
+    sizes: Sizes,
+    directory: &[u8],
+    position: LogPosition,
+    most: u64,
+    requests: &mut [u64; 96],
+    list: &mut [u32],
+) -> Batch
+    requires { ⌜ GeometryFits (sizes .geometry) (length (now log)) × Within (sizes .geometry) (length (now log)) position «readable_end» × Listed (now directory) ⌝ }
+    ensures { λ r. ⌜ Batched (fixedOf sizes (now (directory .entry))) (viewOf (now (log .entry)) «readable_end») position most r (now (requests .exit)) (now (list .exit)) ⌝ }
+{
+    let mut at = position;
+    let mut records: usize = 0;
+    let mut items: usize = 0;
+    while (records < BATCH) & ((records as u64) < most) {
+        let next = next_request(log, readable_end, sizes, directory, at, &mut list[items..]);
+        let Next::Request(request) = next else {
+            break;
+        };
+        if list.len() - items < request.items {
+            break;
+        }
+        put_request(requests, records, request);
+        items += request.items;
+        at = LogPosition(at.0 + request.total);
+        records += 1;
+    }
+    Batch { records, items }
+}
+
+// Files a request whose slots are good, if rules 6 and 7 do not stop it; else nothing is written.
+fn file_request(
+    request: DispatchRequest,
+    position: LogPosition,
+    list: &[u32],
+    sizes: Sizes,
+    counts: &mut [u64; 16],
+    queues: &mut [u8],
+    index: &mut [u8],
+) -> bool
+    requires { ⌜ Filable sizes request position (now counts) (now queues) (now index) (now list) ⌝ }
+    ensures { λ r. ⌜ Files sizes request (now (list .entry)) (stateOf position (now (counts .entry)) (now (queues .entry)) (now (index .entry))) r (now (counts .exit)) (now (queues .exit)) (now (index .exit)) ⌝ }
+{
+    let plan = plan_entry(request.row, request.queue_offset, sizes.entries, counts);
+    let halt = plan_answer(plan);
+    if halt.number() != 0 {
+        return false;
+    }
+    if !index_file::items_fit(index, sizes.index, position, list.len()) {
+        return false;
+    }
+    enter(
+        plan,
+        queues,
+        counts,
+        sizes.entries,
+        position,
+        request.total,
+        request.tag_code,
+    );
+    index_file::put_listed(index, sizes.index, position, request.store_time, list);
+    true
+}
+
+// Steps from a position on, up to so many: records are read ahead, all their slots are judged, one close behind the other, and the records
+// are filed one by one. A slot that is good before them stays good. It ends, perhaps without a step, before anything but a record that is
+// filed so.
+fn advance(
+    log: &[u8],
+    readable_end: LogPosition,
+    sizes: Sizes,
+    directory: &[u8],
+    position: LogPosition,
+    counts: &mut [u64; 16],
+    queues: &mut [u8],
+    index: &mut [u8],
+    most: u64,
+    requests: &mut [u64; 96],
+    list: &mut [u32],
+) -> Advanced
+    requires { ⌜ Sound (fixedOf sizes (now directory)) (viewOf (now log) «readable_end») (stateOf position (now counts) (now queues) (now index)) × (length (now list) ≤ 64) ⌝ }
+    ensures { λ r. ⌜ (walk (stepOf (fixedOf sizes (now (directory .entry))) (viewOf (now (log .entry)) «readable_end»)) (r .steps) (stateOf position (now (counts .entry)) (now (queues .entry)) (now (index .entry))) ≡ moved (stateOf (r .position) (now (counts .exit)) (now (queues .exit)) (now (index .exit)))) × (r .steps ≤ most) ⌝ }
+{
+    let batch = read_ahead(
+        log,
+        readable_end,
+        sizes,
+        directory,
+        position,
+        most,
+        requests,
+        list,
+    );
+    let items = batch.items;
+    let records = batch.records;
+    let mut at = position;
+    let mut first: usize = 0;
+    let mut done: usize = 0;
+    if index_file::listed_slots_bad(index, sizes.index.slot_count, &list[..items]) {
+        return Advanced { position, steps: 0 };
+    }
+    while done < records {
+        let request = request_at(requests, done);
+        let end = first + request.items;
+        if !file_request(request, at, &list[first..end], sizes, counts, queues, index) {
+            break;
+        }
+        at = LogPosition(at.0 + request.total);
+        first = end;
+        done += 1;
+    }
+    Advanced {
+        position: at,
+        steps: done as u64,
+    }
+}
+
 // Steps, until the budget is spent or one is stopped.
 fn run_steps(
     log: &[u8],
@@ -347,10 +620,12 @@ fn run_steps(
     requires { ⌜ Sound (fixedOf sizes (now directory)) (viewOf (now log) «readable_end») (stateOf position (now counts) (now queues) (now index)) ⌝ }
     ensures { λ r. ⌜ ranOf r (now (counts .exit)) (now (queues .exit)) (now (index .exit)) ≡ run (stepOf (fixedOf sizes (now (directory .entry))) (viewOf (now (log .entry)) «readable_end»)) budget (stateOf position (now (counts .entry)) (now (queues .entry)) (now (index .entry))) ⌝ }
 {
+    let mut requests = [0u64; 96];
+    let mut list = [0u32; 64];
     let mut at = position;
     let mut steps: u64 = 0;
     while steps < budget {
-        let stepped = step(
+        let advanced = advance(
             log,
             readable_end,
             sizes,
@@ -359,18 +634,35 @@ fn run_steps(
             counts,
             queues,
             index,
+            budget - steps,
+            &mut requests,
+            &mut list,
         );
-        match stepped {
-            Stepped::Moved(next) => {
-                at = next;
-                steps += 1;
-            }
-            Stepped::Stopped(answer) => {
-                return Dispatched {
-                    answer,
-                    steps,
-                    position: at,
-                };
+        at = advanced.position;
+        steps += advanced.steps;
+        if advanced.steps == 0 {
+            let stepped = step(
+                log,
+                readable_end,
+                sizes,
+                directory,
+                at,
+                counts,
+                queues,
+                index,
+            );
+            match stepped {
+                Stepped::Moved(next) => {
+                    at = next;
+                    steps += 1;
+                }
+                Stepped::Stopped(answer) => {
+                    return Dispatched {
+                        answer,
+                        steps,
+                        position: at,
+                    };
+                }
             }
         }
     }

@@ -119,10 +119,10 @@ module _ (k n hash position time : ℕ) (l : List ℕ) (r : Room k n l 1) (hp : 
         filled =
             rw (filled-put k n hash position time l r, used-put k n hash position time l r)
             (let a = s .filled in let b = pick-le (eqb (slotValue l (slotOf k hash)) 0) 1 0 1 (omega arith) (omega arith) in omega arith);
-        first-time = rw (first-time-put k n hash position time l r ht) (pick-le (eqb (usedCount l) 1) _ _ _ ht (s .first-time));
-        last-time = rw (last-time-put k n hash position time l r ht) ht;
-        first-position = rw (first-position-put k n hash position time l r hp) (pick-le (eqb (usedCount l) 1) _ _ _ hp (s .first-position));
-        last-position = rw (last-position-put k n hash position time l r hp) hp;
+        first-time = rw (first-time-put k n hash position time l r (omega arith)) (pick-le (eqb (usedCount l) 1) _ _ _ ht (s .first-time));
+        last-time = rw (last-time-put k n hash position time l r (omega arith)) ht;
+        first-position = rw (first-position-put k n hash position time l r (omega arith)) (pick-le (eqb (usedCount l) 1) _ _ _ hp (s .first-position));
+        last-position = rw (last-position-put k n hash position time l r (omega arith)) hp;
         fresh = rw (used-put k n hash position time l r, lt-ltb 1 (suc (usedCount l)) (omega arith));
       }
 
@@ -177,7 +177,7 @@ module _ (k n : ℕ) (z : SizesIn k n) where
         long = length-put k n (p .hash) (p .position) (p .time) l r ∙ g .long;
         count = used-put k n (p .hash) (p .position) (p .time) l r ∙ ap suc (g .count);
         sound = sound-put k n (p .hash) (p .position) (p .time) l r hp ht (g .sound);
-        first = first-time-put k n (p .hash) (p .position) (p .time) l r ht ∙ rw (g .count, eqb·suc-suc (length ps) 0, g .first);
+        first = first-time-put k n (p .hash) (p .position) (p .time) l r (omega arith) ∙ rw (g .count, eqb·suc-suc (length ps) 0, g .first);
         slots = λ s h. go s h (eqb (slotOf k (p .hash)) s) refl r;
         chain = (
           ap (itemOf k (put k (p .hash) (p .position) (p .time) l)) (ap suc (length-items k ps) ∙ sym (g .count))

@@ -1,17 +1,18 @@
 -- A record's items: their count, the slots that they need, the puts, and rule 7's answer. Assumes nothing.
 use Prim.Native.Nat.{ℕ, suc, _+_, _*_, _-_, _≤_, _<_}
 use mathlib.Core.Path.{_≡_, refl, sym, _∙_}
-use mathlib.Core.Bool.{Bool, true, false, _&&_, _||_}
+use mathlib.Core.Bool.{Bool, true, false, not, _&&_, _||_}
 use mathlib.Core.List.{List, [], _∷_, _++_, map}
 use native.Mathlib.Omega.{arith}
 use native.Mathlib.Nat.{zero-add, add-zero, suc-add}
 use lib.Dec.{leb, ltb, eqb}
-use lib.ListN.{length, take, drop, length-append, length-take, length-drop, length-map}
-use borrow.Author.Tests.{eq-eqb, ne-eqb, lt-ltb, le-ltb, ltb-false, eqb-true}
+use lib.ListN.{length, take, drop, length-append, length-take, length-drop, length-map, take-append-drop}
+use borrow.Author.Tests.{eq-eqb, ne-eqb, lt-ltb, le-ltb, lt-leb, ltb-false, leb-false, eqb-true, eqb-false}
 use Rattle.codec.specs.Bytes.{big, part, field}
 use Rattle.codec.specs.Choice.{pick}
+use Rattle.codec.proofs.Choices.{neither}
 use Rattle.java_hash.specs.Hash.{topicHash, keyHash, indexHash, slotOf}
-use Rattle.java_hash.proofs.HashLaws.{key-hash, index-hash-small}
+use Rattle.java_hash.proofs.HashLaws.{key-hash, index-hash-small, slot-within}
 use Rattle.units.specs.declared.Answer.the-variants.{Done, IndexFull, IndexAhead, ChainBroken}
 use Rattle.units.specs.declared.Place.{Place}
 use Rattle.properties.specs.declared.Found.{Found}
@@ -25,9 +26,9 @@ use Rattle.properties.proofs.Places.{keys-few}
 use Rattle.index_file.specs.Index.{lastPosition, filledSlots, usedCount, slotAt, slotValue, filledAfter, put}
 use Rattle.index_file.specs.Items.{isFound, uniqueKey, keysAt, keysIn, itemKeys, itemHashes, hashes, isAhead, isFull, badSlot, anyBadSlot, itemsAnswer, putAll}
 use Rattle.index_file.specs.History.{All}
-use Rattle.index_file.specs.Inner.{Room}
-use Rattle.index_file.specs.Claims.{ItemHashes, ItemHashesSmall, CheckedRoom, CheckedItems, PutAllSized}
-use Rattle.index_file.proofs.Puts.{length-put, used-put, filled-put}
+use Rattle.index_file.specs.Inner.{Room, itemsFit}
+use Rattle.index_file.specs.Claims.{ItemHashes, ItemHashesSmall, CheckedRoom, CheckedItems, PutAllSized, GoodSlotsStay, GoodSlotsPart}
+use Rattle.index_file.proofs.Puts.{length-put, used-put, filled-put, slot-same, slot-other}
 
 -- ---- the keys
 
@@ -337,3 +338,49 @@ item-hashes-small topic p = go (itemKeys p)
     go : (ks : List (List ℕ)) → All (λ (h : ℕ). h < 2147483648) (map (indexHash topic) ks)
     go [] = tt
     go (x ∷ ks) = (index-hash-small topic x, go ks)
+
+-- ---- room
+
+module _ (most : ℕ) (l : List ℕ) (position n : ℕ) where
+  pub fit-judged : {a : Bool} {u : ℕ} → a ≡ isAhead l position → u ≡ usedCount l → (eqb n 0 || (not a && leb (u + n) most)) ≡ itemsFit most l position n
+  unfolding itemsFit
+  fit-judged ea eu = rw (ea, eu)
+
+-- ---- slots that are good
+
+module _ (k n position time : ℕ) where
+  -- a put changes one slot, which takes the used count
+  slot-below : (l : List ℕ) (g t : ℕ) → Room k n l 1 → t < k → slotValue l t < usedCount l → slotValue (put k g position time l) t ≤ usedCount l
+  slot-below l g t r in-slots below = go (eqb t (slotOf k g)) refl
+    where
+      go : (b : Bool) → eqb t (slotOf k g) ≡ b → slotValue (put k g position time l) t ≤ usedCount l
+      go true e = rw (eqb-true t (slotOf k g) e, slot-same k n g position time l r) (omega arith)
+      go false e = rw (slot-other k n g position time l r t in-slots (eqb-false t (slotOf k g) e)) (omega arith)
+
+  good-put : (l : List ℕ) (g h : ℕ) → Room k n l 1 → badSlot k l h ≡ false → badSlot k (put k g position time l) h ≡ false
+  unfolding badSlot
+  good-put l g h r e =
+      let a = slot-below l g (slotOf k h) r (slot-within k h (r .some)) (leb-false (usedCount l) (slotValue l (slotOf k h)) e) in
+      rw (used-put k n g position time l r) (lt-leb (suc (usedCount l)) (slotValue (put k g position time l) (slotOf k h)) (omega arith))
+
+  good-puts : (l hs : List ℕ) (g : ℕ) → Room k n l 1 → anyBadSlot k l hs ≡ false → anyBadSlot k (put k g position time l) hs ≡ false
+  unfolding anyBadSlot
+  good-puts l [] g r e = e
+  good-puts l (h ∷ hs) g r e =
+      let a = neither (badSlot k l h) (anyBadSlot k l hs) e in
+      rw (good-put l g h r (a .0), good-puts l hs g r (a .1))
+
+pub good-slots-stay : GoodSlotsStay
+unfolding putAll
+good-slots-stay k n l hs [] position time r e = e
+good-slots-stay k n l hs (g ∷ gs) position time r e =
+    good-slots-stay k n (put k g position time l) hs gs position time (room-less k n position time l (length gs) g r) (good-puts k n position time l hs g (room-one k n l (length gs) r) e)
+
+module _ (k : ℕ) (l : List ℕ) where
+  good-ends : (i : ℕ) (hs : List ℕ) → anyBadSlot k l hs ≡ false → (anyBadSlot k l (take i hs) ≡ false) × (anyBadSlot k l (drop i hs) ≡ false)
+  good-ends i hs e =
+      neither (anyBadSlot k l (take i hs)) (anyBadSlot k l (drop i hs)) (sym (bad-append k l (take i hs) (drop i hs)) ∙ rw (take-append-drop i hs) e)
+
+pub good-slots-part : GoodSlotsPart
+unfolding part
+good-slots-part k l hs w at e = good-ends k l w (drop at hs) (good-ends k l at hs e .1) .0

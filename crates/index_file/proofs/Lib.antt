@@ -8,3 +8,4 @@ pub mod Listed
 pub mod Chain
 pub mod History
 pub mod Exact
+pub mod Headed

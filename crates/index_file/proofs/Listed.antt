@@ -5,7 +5,7 @@ use mathlib.Core.Bool.{Bool, true, false, _||_}
 use mathlib.Core.List.{List, [], _∷_, _++_, append-nil, append-assoc}
 use native.Mathlib.Omega.{arith}
 use native.Mathlib.Numerals.{add-one}
-use lib.ListN.{length, getD, set, take, drop, length-append}
+use lib.ListN.{length, getD, set, take, drop, length-append, length-set, drop-of-length-le}
 use lib.Seq.{drop-cons, take-suc-set}
 use Rattle.java_hash.specs.Hash.{keyHash}
 use Rattle.units.specs.declared.Place.{Place}
@@ -24,19 +24,20 @@ use Rattle.index_file.proofs.Items.{hash-lent, length-hashes, hashes-ap
 
 module _ (n : ℕ) (l : List ℕ) where
   added-none : Added [] n l n l
-  added-none = record { number = omega arith; listed = λ h. sym (append-nil (take n l)) }
+  added-none = record { number = omega arith; long = refl; listed = λ h. sym (append-nil (take n l)) }
 
-  pub added-past : (h : ℕ) → 32 ≤ n → Added (h ∷ []) n l (n + 1) l
-  added-past h k = record { number = omega arith; listed = λ i. absurd (omega arith) }
+  pub added-past : (h : ℕ) → length l ≤ n → Added (h ∷ []) n l (n + 1) l
+  added-past h k = record { number = omega arith; long = refl; listed = λ i. absurd (omega arith) }
 
-  pub added-here : {h r : ℕ} → r ≡ h → n < 32 → 32 ≤ length l → Added (h ∷ []) n l (n + 1) (set l n r)
-  added-here {h} {r} e k i = record { number = omega arith; listed = λ j. rw (e, add-one n) (take-suc-set l n h (omega arith)) }
+  pub added-here : {h r : ℕ} → r ≡ h → n < length l → Added (h ∷ []) n l (n + 1) (set l n r)
+  added-here {h} {r} e k = record { number = omega arith; long = simp length-set; listed = λ j. rw (e, add-one n) (take-suc-set l n h k) }
 
 added-both : (a b : List ℕ) (n : ℕ) (l : List ℕ) (r : ℕ) (m : List ℕ) (s : ℕ) (q : List ℕ) → Added a n l r m → Added b r m s q → Added (a ++ b) n l s q
 added-both a b n l r m s q f g =
     record {
       number = rw (length-append a b) (let i = f .number in let j = g .number in omega arith);
-      listed = λ h. g .listed h ∙ rw (f .listed (let j = g .number in omega arith)) (append-assoc (take n l) a b);
+      long = g .long ∙ f .long;
+      listed = λ h. g .listed h ∙ rw (f .listed (let j = g .number in let i = g .long in omega arith)) (append-assoc (take n l) a b);
     }
 
 -- the unique key
@@ -69,106 +70,93 @@ module _ (prefix : ℕ) (v : List ℕ) (first : ℕ) (l : List ℕ) where
     unfolding keysAt hashes
     collecting-end e = g .rest number m (rw e (added-none number m))
 
-    pub collecting-on : (p : Place) → Leads at v p → {r : ℕ} {q : List ℕ} → length q ≡ length m
+    pub collecting-on : (p : Place) → Leads at v p → {r : ℕ} {q : List ℕ}
         → Added (keyHash prefix (take (p .at + p .len - p .at) (drop (p .at) v)) ∷ []) number m r q → Collecting prefix v first l r q (p .at + p .len)
     unfolding keysAt hashes
-    collecting-on p t {r} {q} e a =
+    collecting-on p t {r} {q} a =
         let b : Added (keyHash prefix (bytesAt p v) ∷ []) number m r q = rw (hash-lent prefix p v refl) at a in
         record {
           low = t .2;
           small = omega (arith, a .number, g .small, t);
-          long = e ∙ g .long;
+          long = a .long ∙ g .long;
           rest = λ s o d. g .rest s o (rw (t .3) (added-both (keyHash prefix (bytesAt p v) ∷ []) (hashes prefix (keysAt (keysFrom (p .at + p .len) v) v)) number m r q s o b d));
         }
 
 -- all
-pub collected : (prefix : ℕ) (found : Scanned) (p v l m q : List ℕ) (first r : ℕ) → found ≡ scanned p → v ≡ valueOf (found .keys) p → 32 ≤ length q
+pub collected : (prefix : ℕ) (found : Scanned) (p v l m q : List ℕ) (first r : ℕ) → found ≡ scanned p → v ≡ valueOf (found .keys) p
     → Added (hashes prefix (uniqueKey (found .«unique_key») p)) 0 l first m → Added (hashes prefix (keysAt (keyPlaces v) v)) first m r q → Collected prefix p r q
-collected prefix found p v l m q first r e ev long f g =
+collected prefix found p v l m q first r e ev f g =
     let w : hashes prefix (itemKeys p) ≡ hashes prefix (uniqueKey (found .«unique_key») p) ++ hashes prefix (keysAt (keyPlaces v) v) = rw (keys-all found p e, ev) (hashes-append prefix _ _) in
     let b : Added (hashes prefix (itemKeys p)) 0 l r q = rw w (added-both _ _ 0 l first m r q f g) in
     let n : r ≡ length (itemKeys p) = omega (arith, b .number, length-hashes prefix (itemKeys p)) in
-    record { number = n; few = rw n (items-few p); long = long; listed = b .listed }
+    record { number = n; few = rw n (items-few p); listed = b .listed }
 
--- ---- what is left of the first n, from i on
+-- ---- the slots: those read and those left decide
 
-abbrev left : ℕ → ℕ → List ℕ → List ℕ
-left i n l = take (n - i) (drop i l)
+pub Judges : ℕ → List ℕ → List ℕ → Bool → ℕ → Type 0
+Judges k l list bad i = (bad || anyBadSlot k l (drop i list)) ≡ anyBadSlot k l list
 
-left-start : (n : ℕ) (l : List ℕ) → left 0 n l ≡ take n l
-left-start n l = let e : n - 0 ≡ n = omega arith in rw e
-
-left-next : (i n : ℕ) (l : List ℕ) → i < n → i < length l → left i n l ≡ getD l i 0 ∷ left (i + 1) n l
-left-next i n l h k = let e : n - i ≡ suc (n - (i + 1)) = omega arith in rw (e, drop-cons l i 0 k, add-one i)
-
-left-end : (i n : ℕ) (l : List ℕ) → n ≤ i → left i n l ≡ []
-left-end i n l h = let e : n - i ≡ 0 = omega arith in rw e
-
--- ---- the slots: what is left decides
-
-pub Judges : ℕ → List ℕ → List ℕ → ℕ → ℕ → Type 0
-Judges k l list n i = anyBadSlot k l (left i n list) ≡ anyBadSlot k l (take n list)
-
-module _ (k : ℕ) (l list : List ℕ) (n : ℕ) where
-  pub judges-start : Judges k l list n 0
+module _ (k : ℕ) (l list : List ℕ) where
+  pub judges-start : Judges k l list false 0
   unfolding Judges
-  judges-start = rw (left-start n list)
+  judges-start = refl
 
-  module _ (i : ℕ) (g : Judges k l list n i) where
-    pub judges-end : n ≤ i → false ≡ anyBadSlot k l (take n list)
+  module _ (bad : Bool) (i : ℕ) (g : Judges k l list bad i) where
+    pub judges-end : length list ≤ i → bad ≡ anyBadSlot k l list
     unfolding Judges anyBadSlot
-    judges-end h = rw (left-end i n list h) at g
+    judges-end h = go bad (rw (drop-of-length-le list h) at g)
+      where
+        go : (b : Bool) → (b || false) ≡ anyBadSlot k l list → b ≡ anyBadSlot k l list
+        go true e = e
+        go false e = e
 
-    module _ (h : i < n) (in-list : i < length list) {r : Bool} (er : r ≡ badSlot k l (getD list i 0)) where
-      judged : (badSlot k l (getD list i 0) || anyBadSlot k l (left (i + 1) n list)) ≡ anyBadSlot k l (take n list)
-      unfolding Judges anyBadSlot
-      judged = rw (left-next i n list h in-list) at g
-
-      pub judges-bad : r ≡ true → true ≡ anyBadSlot k l (take n list)
-      judges-bad e = rw (sym er ∙ e) at judged
-
-      pub judges-on : r ≡ false → Judges k l list n (i + 1)
-      unfolding Judges
-      judges-on e = rw (sym er ∙ e) at judged
+    pub judges-on : i < length list → {r : Bool} → r ≡ badSlot k l (getD list i 0) → Judges k l list (bad || r) (i + 1)
+    unfolding Judges anyBadSlot
+    judges-on h {r} e = rw (add-one i, e) (go bad (rw (drop-cons list i 0 h) at g))
+      where
+        go : (b : Bool) → (b || (badSlot k l (getD list i 0) || anyBadSlot k l (drop (suc i) list))) ≡ anyBadSlot k l list
+            → ((b || badSlot k l (getD list i 0)) || anyBadSlot k l (drop (suc i) list)) ≡ anyBadSlot k l list
+        go true e = e
+        go false e = e
 
 -- from the list, where it holds them all
-pub slots-listed : (k : ℕ) (l : List ℕ) (prefix : ℕ) (p list : List ℕ) (items : ℕ) {r : Bool} → Collected prefix p items list → items ≤ 32
+pub slots-listed : (k : ℕ) (l : List ℕ) (prefix : ℕ) (p list : List ℕ) (items : ℕ) {r : Bool} → Collected prefix p items list → items ≤ length list
     → r ≡ anyBadSlot k l (take items list) → r ≡ anyBadSlot k l (hashes prefix (itemKeys p))
 slots-listed k l prefix p list items c h e = e ∙ rw (c .listed h)
 
 -- ---- the puts: putting what is left gives the whole
 
-pub record Puts (k N position time : ℕ) (list whole : List ℕ) (n : ℕ) (l : List ℕ) (i : ℕ) : Type 0 where
-  pub room : Room k N l (n - i)
-  pub rest : putAll k position time (left i n list) l ≡ whole
+pub record Puts (k n position time : ℕ) (list whole l : List ℕ) (i : ℕ) : Type 0 where
+  pub room : Room k n l (length list - i)
+  pub rest : putAll k position time (drop i list) l ≡ whole
 
-module _ (k N position time : ℕ) (list : List ℕ) (n : ℕ) where
-  pub puts-start : (l : List ℕ) → Room k N l n → Puts k N position time list (putAll k position time (take n list) l) n l 0
-  puts-start l r = let e : n - 0 ≡ n = omega arith in record { room = rw e r; rest = rw (left-start n list) }
+module _ (k n position time : ℕ) (list : List ℕ) where
+  pub puts-start : (l : List ℕ) → Room k n l (length list) → Puts k n position time list (putAll k position time list l) l 0
+  puts-start l r = let e : length list - 0 ≡ length list = omega arith in record { room = rw e r; rest = refl }
 
-  module _ (whole l : List ℕ) (i : ℕ) (g : Puts k N position time list whole n l i) where
-    pub puts-end : n ≤ i → l ≡ whole
+  module _ (whole l : List ℕ) (i : ℕ) (g : Puts k n position time list whole l i) where
+    pub puts-end : length list ≤ i → l ≡ whole
     unfolding putAll
-    puts-end h = rw (left-end i n list h) at (g .rest)
+    puts-end h = rw (drop-of-length-le list h) at (g .rest)
 
-    module _ (h : i < n) where
-      room-next : Room k N l (suc (n - (i + 1)))
-      room-next = let e : n - i ≡ suc (n - (i + 1)) = omega arith in rw e at (g .room)
+    module _ (h : i < length list) where
+      room-next : Room k n l (suc (length list - (i + 1)))
+      room-next = let e : length list - i ≡ suc (length list - (i + 1)) = omega arith in rw e at (g .room)
 
-      pub puts-item : Room k N l 1
-      puts-item = room-one k N l (n - (i + 1)) room-next
+      pub puts-item : Room k n l 1
+      puts-item = room-one k n l (length list - (i + 1)) room-next
 
-      pub puts-on : i < length list → {next : List ℕ} → next ≡ put k (getD list i 0) position time l → Puts k N position time list whole n next (i + 1)
+      pub puts-on : {next : List ℕ} → next ≡ put k (getD list i 0) position time l → Puts k n position time list whole next (i + 1)
       unfolding putAll
-      puts-on in-list e =
+      puts-on e =
           record {
-            room = rw e (room-less k N position time l (n - (i + 1)) (getD list i 0) room-next);
-            rest = rw e (rw (left-next i n list h in-list) at (g .rest));
+            room = rw e (room-less k n position time l (length list - (i + 1)) (getD list i 0) room-next);
+            rest = rw (e, add-one i) (rw (drop-cons list i 0 h) at (g .rest));
           }
 
-module _ (k N : ℕ) (prefix : ℕ) (p list : List ℕ) (items : ℕ) (l : List ℕ) (c : Collected prefix p items list) where
-  pub room-listed : Room k N l (length (itemKeys p)) → Room k N l items
-  room-listed r = rw (c .number) r
+module _ (k N : ℕ) (prefix : ℕ) (p list : List ℕ) (items : ℕ) (l : List ℕ) (c : Collected prefix p items list) (h : items ≤ length list) where
+  pub room-listed : Room k N l (length (itemKeys p)) → Room k N l (length (take items list))
+  room-listed r = rw (c .listed h, length-hashes prefix (itemKeys p)) r
 
-  pub put-listed : (position time : ℕ) {q : List ℕ} → items ≤ 32 → q ≡ putAll k position time (take items list) l → q ≡ putAll k position time (hashes prefix (itemKeys p)) l
-  put-listed position time h e = e ∙ rw (c .listed h)
+  pub put-listed : (position time : ℕ) {q : List ℕ} → q ≡ putAll k position time (take items list) l → q ≡ putAll k position time (hashes prefix (itemKeys p)) l
+  put-listed position time e = e ∙ rw (c .listed h)

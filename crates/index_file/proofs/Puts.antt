@@ -1,6 +1,6 @@
 -- What one put changes, field by field. Assumes nothing.
-use Prim.Native.Nat.{ℕ, suc, _+_, _*_, _-_, _≤_, _<_}
-use mathlib.Core.Path.{_≡_, ap, _∙_}
+use Prim.Native.Nat.{ℕ, suc, _+_, _*_, _-_, _/_, _≤_, _<_, min}
+use mathlib.Core.Path.{_≡_, refl, ap, _∙_}
 use mathlib.Core.Bool.{Bool, true, false}
 use mathlib.Core.List.{List, [], _∷_}
 use native.Mathlib.Nat.{add-zero, mod-eq-of-lt}
@@ -19,18 +19,34 @@ use Rattle.java_hash.specs.Hash.{slotOf}
 use Rattle.java_hash.proofs.HashLaws.{slot-within}
 use Rattle.index_file.specs.declared.Item.{Item}
 use Rattle.index_file.specs.Index.{store, firstTime, lastTime, firstPosition, lastPosition, filledSlots, usedCount, slotAt, slotValue, itemAt, itemBytes, itemOf, secondsOf, headerAfter, itemFor, filledAfter, put}
-use Rattle.index_file.specs.Inner.{Room}
+use Rattle.index_file.specs.Inner.{Room, secondsAfter, withHeader, withItem, Entered}
 use Rattle.index_file.proofs.Stores.{length-store, stored, kept-before, kept-after}
 
--- ---- the steps of `put_item`
+-- ---- the steps of `put_entry` and `put_item`
 
-pub put-steps : (k hash position time : ℕ) (l : List ℕ) {u first filled slot previous seconds more at : ℕ} {a b r : List ℕ}
-    → u ≡ usedCount l → first ≡ firstTime l → filled ≡ filledSlots l → slot ≡ slotAt (slotOf k hash) → previous ≡ field big 4 slot l
-    → seconds ≡ secondsOf first time → at ≡ itemAt k u
-    → a ≡ overwrite l at (itemBytes (record { hash = hash; position = position; seconds = seconds; previous = previous }))
-    → b ≡ store 4 slot u a → more ≡ filledAfter filled previous → r ≡ headerAfter u more position time b → r ≡ put k hash position time l
-unfolding put itemFor
-put-steps k hash position time l hu hf hm hs hp ht ha hw hb hn hr = cc
+pub entry-steps : (k u hash position seconds : ℕ) (l : List ℕ) {slot previous at : ℕ} {a b : List ℕ}
+    → slot ≡ slotAt (slotOf k hash) → previous ≡ field big 4 slot l → at ≡ itemAt k u
+    → a ≡ overwrite l at (itemBytes (record { hash = hash; position = position; seconds = seconds; previous = previous })) → b ≡ store 4 slot u a
+    → Entered k u hash position seconds l previous b
+unfolding withItem
+entry-steps k u hash position seconds l hs hp ha hw hb = record { previous = (cc); stands = (cc) }
+
+pub length-entry : (k u hash position seconds : ℕ) (l : List ℕ) → length (withItem k u hash position seconds l) ≡ length l
+unfolding withItem
+length-entry k u hash position seconds l = length-store _ _ _ _ ∙ length-overwrite _ _ _
+
+-- a put is the item, then the header
+pub put-is : (k hash position time : ℕ) (l : List ℕ)
+    → put k hash position time l
+    ≡ withHeader (eqb (usedCount l) 1) (usedCount l + 1) (filledAfter (filledSlots l) (slotValue l (slotOf k hash))) position time
+    (withItem k (usedCount l) hash position (secondsOf (firstTime l) time) l)
+unfolding put headerAfter itemFor withHeader withItem
+put-is k hash position time l = refl
+
+pub put-steps : (k hash position time : ℕ) (l : List ℕ) {u first filled previous seconds more : ℕ} {a r : List ℕ}
+    → u ≡ usedCount l → first ≡ firstTime l → filled ≡ filledSlots l → seconds ≡ secondsOf first time → Entered k u hash position seconds l previous a
+    → more ≡ filledAfter filled previous → r ≡ withHeader (eqb u 1) (u + 1) more position time a → r ≡ put k hash position time l
+put-steps k hash position time l hu hf hm hs he hn hr = cc (put-is k hash position time l)
 
 module _ (filled previous : ℕ) where
   pub filled-more : previous ≡ 0 → filled + 1 ≡ filledAfter filled previous
@@ -41,112 +57,110 @@ module _ (filled previous : ℕ) where
   unfolding filledAfter pick
   filled-still e = rw (ne-eqb previous 0 e, add-zero)
 
+module _ (u seconds : ℕ) where
+  pub seconds-first : u ≡ 1 → 0 ≡ secondsAfter u seconds
+  unfolding secondsAfter pick
+  seconds-first e = rw (eq-eqb u 1 e)
+
+  pub seconds-later : (u ≡ 1 → ⊥) → seconds ≡ secondsAfter u seconds
+  unfolding secondsAfter pick
+  seconds-later e = rw (ne-eqb u 1 e)
+
 -- ---- the header
 
 -- the steps of `write_header`
-module _ (u filled position time : ℕ) (l : List ℕ) {a b c d : List ℕ} (ea : a ≡ store 4 32 filled l) (eb : b ≡ store 4 36 (u + 1) a)
+module _ {fresh : Bool} (used filled position time : ℕ) (l : List ℕ) {a b c d : List ℕ} (ea : a ≡ store 4 32 filled l) (eb : b ≡ store 4 36 used a)
     (ec : c ≡ store 8 8 time b) (ed : d ≡ store 8 24 position c) where
-  pub header-first : {e f : List ℕ} → u ≡ 1 → e ≡ store 8 0 time d → f ≡ store 8 16 position e → f ≡ headerAfter u filled position time l
-  unfolding headerAfter pick
-  header-first h ee ef = rw (eq-eqb u 1 h, ef, ee, ed, ec, eb, ea)
+  pub header-first : {e f : List ℕ} → fresh ≡ true → e ≡ store 8 0 time d → f ≡ store 8 16 position e → f ≡ withHeader fresh used filled position time l
+  unfolding withHeader pick
+  header-first h ee ef = rw (h, ef, ee, ed, ec, eb, ea)
 
-  pub header-later : (u ≡ 1 → ⊥) → d ≡ headerAfter u filled position time l
-  unfolding headerAfter pick
-  header-later h = rw (ne-eqb u 1 h, ed, ec, eb, ea)
+  pub header-later : fresh ≡ false → d ≡ withHeader fresh used filled position time l
+  unfolding withHeader pick
+  header-later h = rw (h, ed, ec, eb, ea)
 
-module _ (u filled position time : ℕ) (l : List ℕ) where
+module _ (used filled position time : ℕ) (l : List ℕ) where
   last : List ℕ
-  last = store 8 24 position (store 8 8 time (store 4 36 (u + 1) (store 4 32 filled l)))
+  last = store 8 24 position (store 8 8 time (store 4 36 used (store 4 32 filled l)))
 
-  whole : Bool → List ℕ
-  whole b = pick b (store 8 16 position (store 8 0 time last)) last
-
-  length-header : length (headerAfter u filled position time l) ≡ length l
-  unfolding headerAfter whole last pick
-  length-header = go (eqb u 1)
-    where
-      go : (b : Bool) → length (whole b) ≡ length l
-      go true = simp length-overwrite
-      go false = simp length-overwrite
+  length-header : (fresh : Bool) → length (withHeader fresh used filled position time l) ≡ length l
+  unfolding withHeader pick
+  length-header true = simp length-overwrite
+  length-header false = simp length-overwrite
 
   -- its fields are within the first 40 bytes
-  header-after : (w at : ℕ) → 40 ≤ at → field big w at (headerAfter u filled position time l) ≡ field big w at l
-  unfolding headerAfter whole last pick
-  header-after w at h = go (eqb u 1)
+  pub header-after : (fresh : Bool) (w at : ℕ) → 40 ≤ at → field big w at (withHeader fresh used filled position time l) ≡ field big w at l
+  unfolding withHeader last pick
+  header-after fresh w at h = go fresh
     where
       low : field big w at last ≡ field big w at l
       low =
           kept-after 8 24 _ _ w at (omega arith) ∙ kept-after 8 8 _ _ w at (omega arith)
           ∙ kept-after 4 36 _ _ w at (omega arith) ∙ kept-after 4 32 _ _ w at (omega arith)
 
-      go : (b : Bool) → field big w at (whole b) ≡ field big w at l
+      go : (b : Bool) → field big w at (withHeader b used filled position time l) ≡ field big w at l
       go true = kept-after 8 16 _ _ w at (omega arith) ∙ kept-after 8 0 _ _ w at (omega arith) ∙ low
       go false = low
 
   module _ (long : 40 ≤ length l) where
-    header-used : u < 2147483648 → field big 4 36 (headerAfter u filled position time l) ≡ u + 1
-    unfolding headerAfter whole last pick
-    header-used small = go (eqb u 1)
+    header-used : (fresh : Bool) → used < 4294967296 → field big 4 36 (withHeader fresh used filled position time l) ≡ used
+    unfolding withHeader last pick
+    header-used fresh small = go fresh
       where
-        low : field big 4 36 last ≡ u + 1
-        low = kept-after 8 24 _ _ 4 36 (omega arith) ∙ kept-after 8 8 _ _ 4 36 (omega arith) ∙ stored 4 36 (u + 1) _ (simp length-overwrite long) (omega arith)
+        low : field big 4 36 last ≡ used
+        low = kept-after 8 24 _ _ 4 36 (omega arith) ∙ kept-after 8 8 _ _ 4 36 (omega arith) ∙ stored 4 36 used _ (simp length-overwrite long) (omega arith)
 
-        go : (b : Bool) → field big 4 36 (whole b) ≡ u + 1
+        go : (b : Bool) → field big 4 36 (withHeader b used filled position time l) ≡ used
         go true = kept-after 8 16 _ _ 4 36 (omega arith) ∙ kept-after 8 0 _ _ 4 36 (omega arith) ∙ low
         go false = low
 
-    header-filled : filled < 4294967296 → field big 4 32 (headerAfter u filled position time l) ≡ filled
-    unfolding headerAfter whole last pick
-    header-filled small = go (eqb u 1)
+    header-filled : (fresh : Bool) → filled < 4294967296 → field big 4 32 (withHeader fresh used filled position time l) ≡ filled
+    unfolding withHeader last pick
+    header-filled fresh small = go fresh
       where
         low : field big 4 32 last ≡ filled
         low =
             kept-after 8 24 _ _ 4 32 (omega arith) ∙ kept-after 8 8 _ _ 4 32 (omega arith)
             ∙ kept-before 4 36 _ _ 4 32 (omega arith) ∙ stored 4 32 filled l (omega arith) small
 
-        go : (b : Bool) → field big 4 32 (whole b) ≡ filled
+        go : (b : Bool) → field big 4 32 (withHeader b used filled position time l) ≡ filled
         go true = kept-after 8 16 _ _ 4 32 (omega arith) ∙ kept-after 8 0 _ _ 4 32 (omega arith) ∙ low
         go false = low
 
-    header-first-time : time ≤ 281474976710655 → field big 8 0 (headerAfter u filled position time l) ≡ pick (eqb u 1) time (field big 8 0 l)
-    unfolding headerAfter whole last pick
-    header-first-time small = go (eqb u 1)
-      where
-        go : (b : Bool) → field big 8 0 (whole b) ≡ pick b time (field big 8 0 l)
-        go true = kept-before 8 16 _ _ 8 0 (omega arith) ∙ stored 8 0 time _ (simp length-overwrite (omega arith)) (omega arith)
-        go false =
-            kept-before 8 24 _ _ 8 0 (omega arith) ∙ kept-before 8 8 _ _ 8 0 (omega arith)
-            ∙ kept-before 4 36 _ _ 8 0 (omega arith) ∙ kept-before 4 32 _ _ 8 0 (omega arith)
+    header-first-time : (fresh : Bool) → time < 18446744073709551616 → field big 8 0 (withHeader fresh used filled position time l) ≡ pick fresh time (field big 8 0 l)
+    unfolding withHeader pick
+    header-first-time true small = kept-before 8 16 _ _ 8 0 (omega arith) ∙ stored 8 0 time _ (simp length-overwrite (omega arith)) (omega arith)
+    header-first-time false small =
+        kept-before 8 24 _ _ 8 0 (omega arith) ∙ kept-before 8 8 _ _ 8 0 (omega arith)
+        ∙ kept-before 4 36 _ _ 8 0 (omega arith) ∙ kept-before 4 32 _ _ 8 0 (omega arith)
 
-    header-last-time : time ≤ 281474976710655 → field big 8 8 (headerAfter u filled position time l) ≡ time
-    unfolding headerAfter whole last pick
-    header-last-time small = go (eqb u 1)
+    header-last-time : (fresh : Bool) → time < 18446744073709551616 → field big 8 8 (withHeader fresh used filled position time l) ≡ time
+    unfolding withHeader last pick
+    header-last-time fresh small = go fresh
       where
         low : field big 8 8 last ≡ time
         low = kept-before 8 24 _ _ 8 8 (omega arith) ∙ stored 8 8 time _ (simp length-overwrite (omega arith)) (omega arith)
 
-        go : (b : Bool) → field big 8 8 (whole b) ≡ time
+        go : (b : Bool) → field big 8 8 (withHeader b used filled position time l) ≡ time
         go true = kept-before 8 16 _ _ 8 8 (omega arith) ∙ kept-after 8 0 _ _ 8 8 (omega arith) ∙ low
         go false = low
 
-    header-first-position : position ≤ 1099511627776 → field big 8 16 (headerAfter u filled position time l) ≡ pick (eqb u 1) position (field big 8 16 l)
-    unfolding headerAfter whole last pick
-    header-first-position small = go (eqb u 1)
-      where
-        go : (b : Bool) → field big 8 16 (whole b) ≡ pick b position (field big 8 16 l)
-        go true = stored 8 16 position _ (simp length-overwrite (omega arith)) (omega arith)
-        go false =
-            kept-before 8 24 _ _ 8 16 (omega arith) ∙ kept-after 8 8 _ _ 8 16 (omega arith)
-            ∙ kept-before 4 36 _ _ 8 16 (omega arith) ∙ kept-before 4 32 _ _ 8 16 (omega arith)
+    header-first-position : (fresh : Bool) → position < 18446744073709551616
+        → field big 8 16 (withHeader fresh used filled position time l) ≡ pick fresh position (field big 8 16 l)
+    unfolding withHeader pick
+    header-first-position true small = stored 8 16 position _ (simp length-overwrite (omega arith)) (omega arith)
+    header-first-position false small =
+        kept-before 8 24 _ _ 8 16 (omega arith) ∙ kept-after 8 8 _ _ 8 16 (omega arith)
+        ∙ kept-before 4 36 _ _ 8 16 (omega arith) ∙ kept-before 4 32 _ _ 8 16 (omega arith)
 
-    header-last-position : position ≤ 1099511627776 → field big 8 24 (headerAfter u filled position time l) ≡ position
-    unfolding headerAfter whole last pick
-    header-last-position small = go (eqb u 1)
+    header-last-position : (fresh : Bool) → position < 18446744073709551616 → field big 8 24 (withHeader fresh used filled position time l) ≡ position
+    unfolding withHeader last pick
+    header-last-position fresh small = go fresh
       where
         low : field big 8 24 last ≡ position
         low = stored 8 24 position _ (simp length-overwrite (omega arith)) (omega arith)
 
-        go : (b : Bool) → field big 8 24 (whole b) ≡ position
+        go : (b : Bool) → field big 8 24 (withHeader b used filled position time l) ≡ position
         go true = kept-after 8 16 _ _ 8 24 (omega arith) ∙ kept-after 8 0 _ _ 8 24 (omega arith) ∙ low
         go false = low
 
@@ -180,7 +194,7 @@ module _ (k n hash position time : ℕ) (l : List ℕ) (r : Room k n l 1) where
   body = overwrite l (itemAt k (usedCount l)) (itemBytes item)
 
   slotted : List ℕ
-  slotted = store 4 (slotAt (slotOf k hash)) (usedCount l) body
+  slotted = withItem k (usedCount l) hash position (secondsOf (firstTime l) time) l
 
   abbrev after : List ℕ
   after = put k hash position time l
@@ -192,67 +206,82 @@ module _ (k n hash position time : ℕ) (l : List ℕ) (r : Room k n l 1) where
   fits = let a = r .long in let b = r .count in omega arith
 
   length-slotted : length slotted ≡ length l
-  unfolding slotted body
-  length-slotted = length-store _ _ _ _ ∙ length-overwrite _ _ _
+  unfolding slotted
+  length-slotted = length-entry _ _ _ _ _ l
 
   long : 40 ≤ length slotted
   long = rw length-slotted (let a = fits in omega arith)
 
+  more : ℕ
+  more = filledAfter (filledSlots l) (slotValue l (slotOf k hash))
+
+  headed : after ≡ withHeader (eqb (usedCount l) 1) (usedCount l + 1) more position time slotted
+  unfolding slotted more
+  headed = put-is k hash position time l
+
   pub length-put : length after ≡ length l
-  unfolding put slotted body item
-  length-put = length-header _ _ _ _ _ ∙ length-slotted
+  length-put = rw (headed, length-header) length-slotted
 
   -- a field before the slots, and one behind them
   of-header : (w at : ℕ) → at + w ≤ 40 → field big w at slotted ≡ field big w at l
-  unfolding slotted body
+  unfolding slotted withItem body item itemFor
   of-header w at h =
       kept-before 4 (slotAt (slotOf k hash)) _ _ w at (omega arith) ∙ field-before big w at l (itemAt k (usedCount l)) (itemBytes item) (omega arith)
 
+  of-slotted : (w at : ℕ) → 40 ≤ at → field big w at after ≡ field big w at slotted
+  of-slotted w at h = rw headed (header-after _ _ _ _ _ _ w at h)
+
   of-body : (w at : ℕ) → 40 + 4 * k ≤ at → field big w at after ≡ field big w at body
-  unfolding put slotted body item
-  of-body w at h =
-      header-after _ _ _ _ _ w at (omega arith) ∙ kept-after 4 (slotAt (slotOf k hash)) _ _ w at (let a = within in omega arith)
+  unfolding slotted withItem body item itemFor
+  of-body w at h = of-slotted w at (omega arith) ∙ kept-after 4 (slotAt (slotOf k hash)) _ _ w at (let a = within in omega arith)
 
   pub used-put : usedCount after ≡ suc (usedCount l)
-  unfolding put slotted body item
-  used-put = rw (header-used (usedCount l) _ position time slotted long (let a = r .count in let b = r .few in omega arith)) (omega arith)
+  used-put = rw (headed, header-used (usedCount l + 1) more position time slotted long (eqb (usedCount l) 1) (let a = r .count in let b = r .few in omega arith)) (omega arith)
 
   pub filled-put : filledSlots after ≡ filledAfter (filledSlots l) (slotValue l (slotOf k hash))
-  unfolding put slotted body item filledAfter pick
-  filled-put = header-filled (usedCount l) _ position time slotted long (go (eqb (slotValue l (slotOf k hash)) 0))
+  unfolding more filledAfter pick
+  filled-put = rw headed (header-filled _ more position time slotted long _ (go (eqb (slotValue l (slotOf k hash)) 0)))
     where
       go : (b : Bool) → filledSlots l + pick b 1 0 < 4294967296
       go true = let a = r .fill in let b = r .count in let c = r .few in omega arith
       go false = let a = r .fill in let b = r .count in let c = r .few in omega arith
 
-  module _ (small : time ≤ 281474976710655) where
+  module _ (small : time < 18446744073709551616) where
     pub first-time-put : firstTime after ≡ pick (eqb (usedCount l) 1) time (firstTime l)
-    unfolding put slotted body item
-    first-time-put = header-first-time (usedCount l) _ position time slotted long small ∙ ap (pick (eqb (usedCount l) 1) time) (of-header 8 0 (omega arith))
+    first-time-put = rw headed (header-first-time _ more position time slotted long _ small ∙ ap (pick (eqb (usedCount l) 1) time) (of-header 8 0 (omega arith)))
 
     pub last-time-put : lastTime after ≡ time
-    unfolding put slotted body item
-    last-time-put = header-last-time (usedCount l) _ position time slotted long small
+    last-time-put = rw headed (header-last-time _ more position time slotted long _ small)
 
-  module _ (small : position ≤ 1099511627776) where
+    pub seconds-put : secondsOf (firstTime after) time ≡ secondsAfter (usedCount l) (secondsOf (firstTime l) time)
+    unfolding secondsOf secondsAfter pick
+    seconds-put = rw first-time-put (go (eqb (usedCount l) 1))
+      where
+        none : (b : Bool) → pick b 0 (min ((time - time) / 1000) 2147483647) ≡ 0
+        none true = refl
+        none false = omega arith
+
+        go : (b : Bool) → secondsOf (pick b time (firstTime l)) time ≡ pick b 0 (secondsOf (firstTime l) time)
+        go true = none (eqb time 0)
+        go false = refl
+
+  module _ (small : position < 18446744073709551616) where
     pub first-position-put : firstPosition after ≡ pick (eqb (usedCount l) 1) position (firstPosition l)
-    unfolding put slotted body item
-    first-position-put = header-first-position (usedCount l) _ position time slotted long small ∙ ap (pick (eqb (usedCount l) 1) position) (of-header 8 16 (omega arith))
+    first-position-put = rw headed (header-first-position _ more position time slotted long _ small ∙ ap (pick (eqb (usedCount l) 1) position) (of-header 8 16 (omega arith)))
 
     pub last-position-put : lastPosition after ≡ position
-    unfolding put slotted body item
-    last-position-put = header-last-position (usedCount l) _ position time slotted long small
+    last-position-put = rw headed (header-last-position _ more position time slotted long _ small)
 
   pub slot-same : slotValue after (slotOf k hash) ≡ usedCount l
-  unfolding put body item
+  unfolding slotted withItem body item itemFor
   slot-same =
-      header-after _ _ _ _ _ 4 (slotAt (slotOf k hash)) (omega arith)
+      of-slotted 4 (slotAt (slotOf k hash)) (omega arith)
       ∙ stored 4 (slotAt (slotOf k hash)) (usedCount l) _ (rw length-overwrite (let a = within in let b = fits in omega arith)) (let a = r .count in let b = r .few in omega arith)
 
   pub slot-other : (t : ℕ) → t < k → (t ≡ slotOf k hash → ⊥) → slotValue after t ≡ slotValue l t
-  unfolding put body item
+  unfolding slotted withItem body item itemFor
   slot-other t h ne =
-      header-after _ _ _ _ _ 4 (slotAt t) (omega arith) ∙ go (decLt t (slotOf k hash))
+      of-slotted 4 (slotAt t) (omega arith) ∙ go (decLt t (slotOf k hash))
       ∙ field-before big 4 (slotAt t) l (itemAt k (usedCount l)) (itemBytes item) (omega arith)
     where
       go : Dec (t < slotOf k hash) → field big 4 (slotAt t) (store 4 (slotAt (slotOf k hash)) (usedCount l) body) ≡ field big 4 (slotAt t) body

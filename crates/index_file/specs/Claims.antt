@@ -5,11 +5,12 @@ use mathlib.Core.Bool.{true, false, _&&_, _||_}
 use mathlib.Core.List.{List, _++_, map}
 use lib.Dec.{leb}
 use lib.ListN.{length, take, drop}
+use Rattle.codec.specs.Bytes.{part}
 use Rattle.java_hash.specs.Hash.{indexHash, topicHash}
 use Rattle.units.specs.declared.Answer.the-variants.{Done}
 use Rattle.index_file.specs.Index.{sizesOk, headerSound, usedCount, itemOf, put}
 use Rattle.index_file.specs.Query.{wantedOf, queryOk, Report, queried}
-use Rattle.index_file.specs.Items.{itemKeys, itemHashes, hashes, itemsAnswer, putAll}
+use Rattle.index_file.specs.Items.{itemKeys, itemHashes, hashes, anyBadSlot, itemsAnswer, putAll}
 use Rattle.index_file.specs.History.{zeros, zerosAndOne, Empty, Fresh, Put, build, Fit, inSlot, items, All, SecondsRise, TimesRise, keep, matches, chain, downFrom, filed}
 use Rattle.index_file.specs.Inner.{Room, Sized}
 
@@ -112,7 +113,7 @@ DoorSized = (k n : ℕ) (index : List ℕ) → sizesOk k n (length index) ≡ tr
 abbrev pub CheckedRoom : Type 0
 CheckedRoom = (k n : ℕ) (index : List ℕ) (position : ℕ) (hs : List ℕ) → Sized k n index → itemsAnswer k n index position hs ≡ Done → Room k n index (length hs)
 
--- the same, as `check_items` answers and `put_items` asks
+-- the same, counted by the keys
 abbrev pub CheckedItems : Type 0
 CheckedItems =
     (k n : ℕ) (index : List ℕ) (position prefix : ℕ) (properties : List ℕ) → Sized k n index
@@ -121,6 +122,16 @@ CheckedItems =
 -- an index that the door lets through, with room for a record's items, is one after they are put
 abbrev pub PutAllSized : Type 0
 PutAllSized = (k n position time : ℕ) (hs index : List ℕ) → Room k n index (length hs) → Sized k n (putAll k position time hs index)
+
+-- slots that are good stay good, whatever items are put
+abbrev pub GoodSlotsStay : Type 0
+GoodSlotsStay =
+    (k n : ℕ) (index hs gs : List ℕ) (position time : ℕ) → Room k n index (length gs) → anyBadSlot k index hs ≡ false
+    → anyBadSlot k (putAll k position time gs index) hs ≡ false
+
+-- good slots of a list are good slots of a part of it
+abbrev pub GoodSlotsPart : Type 0
+GoodSlotsPart = (k : ℕ) (index l : List ℕ) (w at : ℕ) → anyBadSlot k index l ≡ false → anyBadSlot k index (part w at l) ≡ false
 
 -- a record's items, put into an index that was built, give one that is built
 abbrev pub PutBuilt : Type 0

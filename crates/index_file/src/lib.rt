@@ -9,11 +9,11 @@ ghost use Rattle.units.specs.declared.Place.{Place};
 ghost use Rattle.properties.specs.Parts.{bytesAt};
 ghost use Rattle.properties.specs.Finder.{scanned, Inside};
 ghost use Rattle.properties.specs.Keys.{keyPlaces};
-ghost use Rattle.index_file.specs.Index.{usedCount, sizesOk, headerSound, itemAt, itemBytes, itemOf, secondsOf, headerAfter, filledAfter, put};
+ghost use Rattle.index_file.specs.Index.{usedCount, sizesOk, headerSound, itemAt, itemBytes, itemOf, secondsOf, filledAfter, put};
 ghost use Rattle.index_file.specs.Walk.{criteriaOf, search};
 ghost use Rattle.index_file.specs.Query.{wantedOf, queryOk, reported, queried};
 ghost use Rattle.index_file.specs.Items.{isFound, uniqueKey, keysAt, itemKeys, hashes, isAhead, badSlot, anyBadSlot, itemsAnswer, putAll};
-ghost use Rattle.index_file.specs.Inner.{verdictOf, Room, Sized, SlotPlace, Added, Collected};
+ghost use Rattle.index_file.specs.Inner.{itemsFit, verdictOf, Room, Sized, SlotPlace, secondsAfter, withHeader, Entered, Added, Collected};
 use properties::Found;
 use properties::Key;
 use properties::Scanned;
@@ -187,19 +187,58 @@ fn filled_after(filled: u32, previous: u32) -> u32
     if previous == 0 { filled + 1 } else { filled }
 }
 
-// The header, brought up to date after item u.
-fn write_header(index: &mut [u8], u: u32, filled: u32, position: u64, store_time: u64)
-    requires { ⌜ (40 ≤ length (now index)) × (u < 2147483648) ⌝ }
-    ensures { λ _. ⌜ now (index .exit) ≡ headerAfter u filled position «store_time» (now (index .entry)) ⌝ }
+// The seconds of the next item of a record, after item u: item 1 makes the first time the store time.
+fn seconds_after(u: u32, seconds: u32) -> u32
+    ensures { λ r. ⌜ r ≡ secondsAfter u seconds ⌝ }
+{
+    if u == 1 { 0 } else { seconds }
+}
+
+// The header: both counts, the last fields, and the first ones of an index that had no item.
+fn write_header(
+    index: &mut [u8],
+    fresh: bool,
+    used: u32,
+    filled: u32,
+    position: u64,
+    store_time: u64,
+)
+    requires { ⌜ 40 ≤ length (now index) ⌝ }
+    ensures { λ _. ⌜ now (index .exit) ≡ withHeader fresh used filled position «store_time» (now (index .entry)) ⌝ }
 {
     codec::put_u32(index, FILLED_SLOTS, filled);
-    codec::put_u32(index, USED_COUNT, u + 1);
+    codec::put_u32(index, USED_COUNT, used);
     codec::put_u64(index, LAST_TIME, store_time);
     codec::put_u64(index, LAST_POSITION, position);
-    if u == 1 {
+    if fresh {
         codec::put_u64(index, FIRST_TIME, store_time);
         codec::put_u64(index, FIRST_POSITION, position);
     }
+}
+
+// Item u and its slot, which takes u: the slot's value before. The header stays.
+fn put_entry(
+    index: &mut [u8],
+    slot_count: u64,
+    u: u32,
+    hash: u32,
+    position: u64,
+    seconds: u32,
+) -> u32
+    requires { ⌜ (0 < «slot_count») × («slot_count» ≤ 5000000) × (itemAt «slot_count» u + 20 ≤ length (now index)) ⌝ }
+    ensures { λ r. ⌜ Entered «slot_count» u hash position seconds (now (index .entry)) r (now (index .exit)) ⌝ }
+{
+    let slot = slot_place(hash, slot_count);
+    let previous = codec::get_u32(index, slot);
+    let item = Item {
+        hash,
+        position,
+        seconds,
+        previous,
+    };
+    write_item(index, item_place(slot_count, u), item);
+    codec::put_u32(index, slot, u);
+    previous
 }
 
 // One item, put at the used count.
@@ -207,29 +246,14 @@ fn put_item(index: &mut [u8], sizes: IndexSizes, hash: u32, position: LogPositio
     requires { ⌜ Room (sizes .«slot_count») (sizes .«item_count») (now index) 1 ⌝ }
     ensures { λ _. ⌜ now (index .exit) ≡ put (sizes .«slot_count») hash (position .0) «store_time» (now (index .entry)) ⌝ }
 {
-    let k = sizes.slot_count;
     let u = used_count(index);
     let first_time = codec::get_u64(index, FIRST_TIME);
     let filled = codec::get_u32(index, FILLED_SLOTS);
-    let slot = slot_place(hash, k);
-    let previous = codec::get_u32(index, slot);
     let position = position.0;
     let seconds = seconds_of(first_time, store_time);
-    let item = Item {
-        hash,
-        position,
-        seconds,
-        previous,
-    };
-    write_item(index, item_place(k, u), item);
-    codec::put_u32(index, slot, u);
-    write_header(
-        index,
-        u,
-        filled_after(filled, previous),
-        position,
-        store_time,
-    );
+    let previous = put_entry(index, sizes.slot_count, u, hash, position, seconds);
+    let more = filled_after(filled, previous);
+    write_header(index, u == 1, u + 1, more, position, store_time);
 }
 
 // What an item that was read comes to.
@@ -438,21 +462,20 @@ fn key_slots_bad(index: &[u8], slot_count: u64, prefix: u32, keys: &[u8]) -> boo
 }
 
 // One key more: its hash is made and kept while the list has a place for it.
-fn add_key(prefix: u32, key: &[u8], number: u64, list: &mut [u32]) -> u64
-    requires { ⌜ (number < 9223372036854775808) × (32 ≤ length (now list)) ⌝ }
+fn add_key(prefix: u32, key: &[u8], number: usize, list: &mut [u32]) -> usize
+    requires { ⌜ number < 9223372036854775808 ⌝ }
     ensures { λ r. ⌜ Added (keyHash prefix (now (key .entry)) ∷ []) number (now (list .entry)) r (now (list .exit)) ⌝ }
 {
-    if 32 <= number {
+    if list.len() <= number {
         return number + 1;
     }
-    let at = number as usize;
-    list[at] = java_hash::key_hash(prefix, key);
+    list[number] = java_hash::key_hash(prefix, key);
     number + 1
 }
 
 // The unique key, if there is one.
-fn collect_unique(prefix: u32, properties: &[u8], found: Found, list: &mut [u32]) -> u64
-    requires { ⌜ Inside (length (now properties)) found × (32 ≤ length (now list)) ⌝ }
+fn collect_unique(prefix: u32, properties: &[u8], found: Found, list: &mut [u32]) -> usize
+    requires { ⌜ Inside (length (now properties)) found ⌝ }
     ensures { λ r. ⌜ Added (hashes prefix (uniqueKey found (now (properties .entry)))) 0 (now (list .entry)) r (now (list .exit)) ⌝ }
 {
     if !is_found(found) {
@@ -462,8 +485,8 @@ fn collect_unique(prefix: u32, properties: &[u8], found: Found, list: &mut [u32]
 }
 
 // The parts of KEYS, behind the first ones of the list.
-fn collect_keys(prefix: u32, keys: &[u8], first: u64, list: &mut [u32]) -> u64
-    requires { ⌜ (first ≤ 1) × (32 ≤ length (now list)) ⌝ }
+fn collect_keys(prefix: u32, keys: &[u8], first: usize, list: &mut [u32]) -> usize
+    requires { ⌜ first ≤ 1 ⌝ }
     ensures { λ r. ⌜ Added (hashes prefix (keysAt (keyPlaces (now (keys .entry))) (now (keys .entry)))) first (now (list .entry)) r (now (list .exit)) ⌝ }
 {
     let mut number = first;
@@ -484,8 +507,8 @@ fn collect_keys(prefix: u32, keys: &[u8], first: u64, list: &mut [u32]) -> u64
 }
 
 // A record's items in one walk: their number, and in the list the hashes of as many as it has places for.
-pub fn collect_items(prefix: u32, properties: &[u8], found: Scanned, list: &mut [u32]) -> u64
-    requires { ⌜ (found ≡ scanned (now properties)) × (32 ≤ length (now list)) ⌝ }
+pub fn collect_items(prefix: u32, properties: &[u8], found: Scanned, list: &mut [u32]) -> usize
+    requires { ⌜ found ≡ scanned (now properties) ⌝ }
     ensures { λ r. ⌜ Collected prefix (now (properties .entry)) r (now (list .exit)) ⌝ }
 {
     let unique_key = found.unique_key;
@@ -512,20 +535,20 @@ fn slots_bad(index: &[u8], slot_count: u64, prefix: u32, properties: &[u8], foun
     )
 }
 
-// Whether a slot of the list's first n hashes is bad.
-fn listed_slots_bad(index: &[u8], slot_count: u64, list: &[u32], n: usize) -> bool
-    requires { ⌜ (0 < «slot_count») × («slot_count» ≤ 5000000) × (40 + 4 * «slot_count» ≤ length (now index)) × (n ≤ 32) × (32 ≤ length (now list)) ⌝ }
-    ensures { λ r. ⌜ r ≡ anyBadSlot «slot_count» (now (index .entry)) (take n (now (list .entry))) ⌝ }
+// Whether the slot of a hash of the list holds a value that is not below the used count. It reads them all: no read waits for the one before.
+pub fn listed_slots_bad(index: &[u8], slot_count: u64, list: &[u32]) -> bool
+    requires { ⌜ (0 < «slot_count») × («slot_count» ≤ 5000000) × (40 + 4 * «slot_count» ≤ length (now index)) ⌝ }
+    ensures { λ r. ⌜ r ≡ anyBadSlot «slot_count» (now (index .entry)) (now (list .entry)) ⌝ }
 {
+    let used = used_count(index);
+    let mut bad = false;
     let mut i: usize = 0;
-    while i < n {
+    while i < list.len() {
         let hash = list[i];
-        if slot_bad(index, slot_count, hash) {
-            return true;
-        }
+        bad = bad | (used <= codec::get_u32(index, slot_place(hash, slot_count)));
         i += 1;
     }
-    false
+    bad
 }
 
 // The same of a record's items: from the list, if it holds them all.
@@ -535,14 +558,14 @@ fn items_slots_bad(
     prefix: u32,
     properties: &[u8],
     found: Scanned,
-    items: u64,
+    items: usize,
     list: &[u32],
 ) -> bool
     requires { ⌜ (0 < «slot_count») × («slot_count» ≤ 5000000) × (40 + 4 * «slot_count» ≤ length (now index)) × (found ≡ scanned (now properties)) × Collected prefix (now properties) items (now list) ⌝ }
     ensures { λ r. ⌜ r ≡ anyBadSlot «slot_count» (now (index .entry)) (hashes prefix (itemKeys (now (properties .entry)))) ⌝ }
 {
-    if items <= 32 {
-        return listed_slots_bad(index, slot_count, list, items as usize);
+    if items <= list.len() {
+        return listed_slots_bad(index, slot_count, &list[..items]);
     }
     slots_bad(index, slot_count, prefix, properties, found)
 }
@@ -555,6 +578,15 @@ fn is_ahead(index: &[u8], position: LogPosition) -> bool
     (1 < used_count(index)) & (position.0 <= codec::get_u64(index, LAST_POSITION))
 }
 
+// Whether so many items of a record at the position go in: the index is not ahead of it and has room.
+pub fn items_fit(index: &[u8], sizes: IndexSizes, position: LogPosition, n: usize) -> bool
+    requires { ⌜ (40 ≤ length (now index)) × (n ≤ 16385) ⌝ }
+    ensures { λ r. ⌜ r ≡ itemsFit (sizes .«item_count») (now (index .entry)) (position .0) n ⌝ }
+{
+    (n == 0)
+        | (!is_ahead(index, position) & (used_count(index) as u64 + n as u64 <= sizes.item_count))
+}
+
 // Rule 7's answer for a record's items, judged on the index before the record. Nothing is written.
 pub fn check_items(
     index: &[u8],
@@ -563,7 +595,7 @@ pub fn check_items(
     prefix: u32,
     properties: &[u8],
     found: Scanned,
-    items: u64,
+    items: usize,
     list: &[u32],
 ) -> Answer
     requires { ⌜ Sized (sizes .«slot_count») (sizes .«item_count») (now index) × (found ≡ scanned (now properties)) × Collected prefix (now properties) items (now list) ⌝ }
@@ -575,7 +607,7 @@ pub fn check_items(
     if is_ahead(index, position) {
         return Answer::IndexAhead;
     }
-    if sizes.item_count < used_count(index) as u64 + items {
+    if sizes.item_count < used_count(index) as u64 + items as u64 {
         return Answer::IndexFull;
     }
     let k = sizes.slot_count;
@@ -671,24 +703,36 @@ fn put_found(
     );
 }
 
-// An item for each of the list's first n hashes.
-fn put_listed(
+// An item for each hash of the list, in its order; the header is read before them and written behind them.
+pub fn put_listed(
     index: &mut [u8],
     sizes: IndexSizes,
     position: LogPosition,
     store_time: u64,
     list: &[u32],
-    n: usize,
 )
-    requires { ⌜ Room (sizes .«slot_count») (sizes .«item_count») (now index) n × (n ≤ 32) × (32 ≤ length (now list)) ⌝ }
-    ensures { λ _. ⌜ now (index .exit) ≡ putAll (sizes .«slot_count») (position .0) «store_time» (take n (now (list .entry))) (now (index .entry)) ⌝ }
+    requires { ⌜ Room (sizes .«slot_count») (sizes .«item_count») (now index) (length (now list)) ⌝ }
+    ensures { λ _. ⌜ now (index .exit) ≡ putAll (sizes .«slot_count») (position .0) «store_time» (now (list .entry)) (now (index .entry)) ⌝ }
 {
+    if list.len() == 0 {
+        return;
+    }
+    let first = used_count(index);
+    let first_time = codec::get_u64(index, FIRST_TIME);
+    let position = position.0;
+    let mut used = first;
+    let mut filled = codec::get_u32(index, FILLED_SLOTS);
+    let mut seconds = seconds_of(first_time, store_time);
     let mut i: usize = 0;
-    while i < n {
+    while i < list.len() {
         let listed = list[i];
-        put_item(index, sizes, listed, position, store_time);
+        let previous = put_entry(index, sizes.slot_count, used, listed, position, seconds);
+        filled = filled_after(filled, previous);
+        seconds = seconds_after(used, seconds);
+        used += 1;
         i += 1;
     }
+    write_header(index, first == 1, used, filled, position, store_time);
 }
 
 // A record's items: from the list, if it holds them all.
@@ -700,14 +744,14 @@ pub fn put_items(
     prefix: u32,
     properties: &[u8],
     found: Scanned,
-    items: u64,
+    items: usize,
     list: &[u32],
 )
     requires { ⌜ Room (sizes .«slot_count») (sizes .«item_count») (now index) (length (itemKeys (now properties))) × (found ≡ scanned (now properties)) × Collected prefix (now properties) items (now list) ⌝ }
     ensures { λ _. ⌜ now (index .exit) ≡ putAll (sizes .«slot_count») (position .0) «store_time» (hashes prefix (itemKeys (now (properties .entry)))) (now (index .entry)) ⌝ }
 {
-    if items <= 32 {
-        put_listed(index, sizes, position, store_time, list, items as usize);
+    if items <= list.len() {
+        put_listed(index, sizes, position, store_time, &list[..items]);
         return;
     }
     put_found(

@@ -8,7 +8,7 @@ returns : tie.Need-returns
 returns c = added-past _ _ _ (c .if1 .taken)
 
 returns-2 : tie.Need-returns-2
-returns-2 c = added-here _ _ (c .key-hash .ensures) (c .before .if1 .left) (c .before .before .before .before .pre .1)
+returns-2 c = added-here _ _ (c .key-hash .ensures) (c .before .if1 .left)
 
 pub add-key-spec : {M : Type 1} → statement M
 add-key-spec =

@@ -17,7 +17,7 @@ abbrev μ-loop : tie.MeasureT-loop
 μ-loop prefix keys first list₀ number₀ at₀ list number at = length keys - at
 
 loop-holds : tie.Need-loop-holds Inv-loop μ-loop
-loop-holds c = collecting-start _ _ _ _ (c .before .before .pre .0)
+loop-holds c = collecting-start _ _ _ _ (c .before .before .pre)
 
 -- the key that came
 told : (c : tie.After-next Inv-loop μ-loop) → Leads (c .before .before .before .loop .at) (c .before .before .before .before .before .before .args .keys .now) (c .next .given .0 .0)
@@ -36,13 +36,13 @@ part-add-key-end : tie.Need-part-add-key-end Inv-loop μ-loop
 part-add-key-end c = omega (arith, told (c .before .before))
 
 add-key-requires : tie.Need-add-key-requires Inv-loop μ-loop
-add-key-requires c κs = let i = c .before .before .before .before .before .before .before .loop .inv in omega (arith, i .small, i .long, told (c .before .before .before .before), c .before .before .before .before .before .before .before .before .before .before .pre)
+add-key-requires c κs = let i = c .before .before .before .before .before .before .before .loop .inv in omega (arith, i .small, told (c .before .before .before .before))
 
 loop-less : tie.Need-loop-less Inv-loop μ-loop
 loop-less c = omega (arith, told (c .before .before .before .before .before .before .before))
 
 loop-again : tie.Need-loop-again Inv-loop μ-loop
-loop-again c = collecting-on _ _ _ _ _ _ _ (c .before .before .before .before .before .before .before .before .before .before .loop .inv) _ (told (c .before .before .before .before .before .before .before)) (c .before .before .add-key .kept .1 .1 .1 .0) (c .before .before .add-key .ensures)
+loop-again c = collecting-on _ _ _ _ _ _ _ (c .before .before .before .before .before .before .before .before .before .before .loop .inv) _ (told (c .before .before .before .before .before .before .before)) (c .before .before .add-key .ensures)
 
 same-length : tie.Need-same-length Inv-loop μ-loop
 same-length c = c .before .before .before .loop .inv .long

@@ -10,7 +10,7 @@ returns : tie.Need-returns
 returns c = added-absent _ _ _ _ (sym (c .before .is-found .ensures) ∙ not-true _ (c .if1 .taken))
 
 value-requires : tie.Need-value-requires
-value-requires c κs = c .before .before .before .before .pre .0
+value-requires c κs = c .before .before .before .before .pre
 
 returns-2 : tie.Need-returns-2
 returns-2 c =
