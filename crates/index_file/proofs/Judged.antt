@@ -161,9 +161,13 @@ module _ (k n : ℕ) (l topic key : List ℕ) (first last wanted : ℕ) (out : L
         unfolding queryWalk pick
         refused-query {r} c e = refused BadQuery r e (rw (← es, a, ← eh, b, ← em, ← eq, c))
 
-        pub asked : {hash : ℕ} {w : Criteria} {r : Report} → not q ≡ false → hash ≡ indexHash topic key → w ≡ criteriaOf l hash first last → r ≡ reported (search k l w most) out → Whole r
+        pub asked : {hash : ℕ} {w : Criteria} {r : Report} → not q ≡ false → (q ≡ true → hash ≡ indexHash topic key) → w ≡ criteriaOf l hash first last → r ≡ reported (search k l w most) out → Whole r
         unfolding queried queryWalk pick
-        asked c ek ew er = er ∙ rw (← es, a, ← eh, b, ← em, ← eq, c, ew, ek)
+        asked c ek ew er = er ∙ rw (← es, a, ← eh, b, ← em, ← eq, c, ew, ek (not-false q c))
+
+-- of a query that is not well-formed no hash is asked
+pub unasked : {fits : Bool} (r hash : ℕ) → not fits ≡ true → fits ≡ true → r ≡ hash
+unasked {fits} r hash a e = let b : fits ≡ false = not-true fits a in cc
 
 -- what the walk may count on
 pub accepted : (k n : ℕ) (l : List ℕ) (topic key first last most places hash : ℕ) {s h q : Bool} {w : Criteria}

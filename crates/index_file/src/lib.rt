@@ -1,10 +1,11 @@
 // The index file: an item put, a record's items checked and put, a query by key and time.
 ghost use mathlib.Core.Path.{_≡_};
 ghost use Prim.Native.Nat.{_+_, _*_, _<_, _≤_};
+ghost use mathlib.Core.Bool.{true};
 ghost use mathlib.Core.List.{[], _∷_};
 ghost use lib.ListN.{length, take};
 ghost use Rattle.codec.specs.Bytes.{overwrite};
-ghost use Rattle.java_hash.specs.Hash.{keyHash, slotOf};
+ghost use Rattle.java_hash.specs.Hash.{keyHash, indexHash, slotOf};
 ghost use Rattle.units.specs.declared.Place.{Place};
 ghost use Rattle.properties.specs.Parts.{bytesAt};
 ghost use Rattle.properties.specs.Finder.{scanned, Inside};
@@ -358,7 +359,18 @@ fn query_ok(
     texts & times & (wanted <= places as u64)
 }
 
+// The index hash of a query's key, if the query is well-formed.
+fn hash_if(fits: bool, topic: &[u8], key: &[u8]) -> u32
+    ensures { λ r. ⌜ (fits ≡ true → r ≡ indexHash (now (topic .entry)) (now (key .entry))) ⌝ }
+{
+    if !fits {
+        return 0;
+    }
+    java_hash::index_hash(topic, key)
+}
+
 // The newest items with the key's hash and a recorded time in the range: their positions go to the output's front.
+// The hash is the longest wait, and the other checks go on meanwhile: it is made first, though they are answered before.
 pub fn query(
     index: &[u8],
     sizes: IndexSizes,
@@ -371,24 +383,25 @@ pub fn query(
 ) -> Queried
     ensures { λ r. ⌜ record { made = r; out = now (out .exit) } ≡ queried (sizes .«slot_count») (sizes .«item_count») (now (index .entry)) (now (topic .entry)) (now (key .entry)) «first_time» «last_time» wanted (now (out .entry)) ⌝ }
 {
-    if !sizes_ok(sizes, index.len()) {
-        return ended(Answer::BadSizes, 0, 0);
-    }
-    if !header_sound(index, sizes.item_count) {
-        return ended(Answer::BadIndexHeader, 0, 0);
-    }
     let most = wanted_of(wanted);
-    if !query_ok(
+    let fits = query_ok(
         topic.len(),
         key.len(),
         first_time,
         last_time,
         most,
         out.len(),
-    ) {
+    );
+    let hash = hash_if(fits, topic, key);
+    if !sizes_ok(sizes, index.len()) {
+        return ended(Answer::BadSizes, 0, 0);
+    }
+    if !header_sound(index, sizes.item_count) {
+        return ended(Answer::BadIndexHeader, 0, 0);
+    }
+    if !fits {
         return ended(Answer::BadQuery, 0, 0);
     }
-    let hash = java_hash::index_hash(topic, key);
     let criteria = criteria_for(index, hash, first_time, last_time);
     walk_chain(index, sizes.slot_count, criteria, most as usize, out)
 }

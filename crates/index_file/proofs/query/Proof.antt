@@ -16,22 +16,23 @@ returns-2 c =
 
 returns-3 : tie.Need-returns-3
 returns-3 c =
-    refused-query _ _ _ _ _ _ _ _ _ (c .before .before .before .before .before .before .before .sizes-ok .ensures) (c .before .before .before .before .before .before .if1 .left) (c .before .before .before .before .before .header-sound .ensures) (c .before .before .before .before .if2 .left)
-    (c .before .before .before .wanted-of .ensures) (c .before .before .query-ok .ensures) (c .before .if3 .taken) (c .ended3 .ensures)
+    refused-query _ _ _ _ _ _ _ _ _ (c .before .before .before .before .before .sizes-ok .ensures) (c .before .before .before .before .if1 .left) (c .before .before .before .header-sound .ensures) (c .before .before .if2 .left)
+    (c .before .before .before .before .before .before .before .before .wanted-of .ensures) (c .before .before .before .before .before .before .before .query-ok .ensures) (c .before .if3 .taken) (c .ended3 .ensures)
 
 criteria-for-requires : tie.Need-criteria-for-requires
-criteria-for-requires c κs = sizes-long _ _ _ (c .before .before .before .before .before .before .before .sizes-ok .ensures) (c .before .before .before .before .before .before .if1 .left)
+criteria-for-requires c κs = sizes-long _ _ _ (c .before .before .before .before .sizes-ok .ensures) (c .before .before .before .if1 .left)
 
 walk-chain-requires : tie.Need-walk-chain-requires
 walk-chain-requires c κs =
-    accepted _ _ _ _ _ _ _ _ _ _ (c .before .before .before .before .before .before .before .before .before .sizes-ok .ensures) (c .before .before .before .before .before .before .before .before .if1 .left) (c .before .before .before .before .before .before .before .header-sound .ensures) (c .before .before .before .before .before .before .if2 .left)
-    (c .before .before .before .before .query-ok .ensures) (c .before .before .before .if3 .left) (c .before .criteria-for .ensures)
+    accepted _ _ _ _ _ _ _ _ _ _ (c .before .before .before .before .before .before .sizes-ok .ensures) (c .before .before .before .before .before .if1 .left) (c .before .before .before .before .header-sound .ensures) (c .before .before .before .if2 .left)
+    (c .before .before .before .before .before .before .before .before .query-ok .ensures) (c .before .before .if3 .left) (c .before .criteria-for .ensures)
 
 returns-4 : tie.Need-returns-4
 returns-4 c =
-    asked _ _ _ _ _ _ _ _ _ (c .before .before .before .before .before .before .before .before .before .before .before .before .sizes-ok .ensures) (c .before .before .before .before .before .before .before .before .before .before .before .if1 .left) (c .before .before .before .before .before .before .before .before .before .before .header-sound .ensures) (c .before .before .before .before .before .before .before .before .before .if2 .left) (c .before .before .before .before .before .before .before .before .wanted-of .ensures)
-    (c .before .before .before .before .before .before .before .query-ok .ensures) (c .before .before .before .before .before .before .if3 .left) (c .before .before .before .before .before .index-hash .ensures) (c .before .before .before .before .criteria-for .ensures) (c .before .before .walk-chain .ensures)
+    let d = c .before .before .before .before .before .before .before in
+    asked _ _ _ _ _ _ _ _ _ (d .before .before .sizes-ok .ensures) (d .before .if1 .left) (d .header-sound .ensures) (c .before .before .before .before .before .before .if2 .left) (d .before .before .before .before .before .wanted-of .ensures)
+    (d .before .before .before .before .query-ok .ensures) (c .before .before .before .before .before .if3 .left) (d .before .before .before .hash-if .ensures) (c .before .before .before .before .criteria-for .ensures) (c .before .before .walk-chain .ensures)
 
 pub query-spec : {M : Type 1} → statement M
 query-spec =
-    tie.close (tie.spec (search needs) (search needs) returns header-sound-requires (search needs) returns-2 (search needs) (search needs) (search needs) returns-3 (search needs) criteria-for-requires walk-chain-requires (search needs) returns-4)
+    tie.close (tie.spec (search needs) (search needs) (search needs) (search needs) (search needs) returns header-sound-requires (search needs) returns-2 (search needs) returns-3 criteria-for-requires walk-chain-requires (search needs) returns-4)
