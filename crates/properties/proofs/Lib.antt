@@ -1,4 +1,5 @@
 pub mod Dividing
+pub mod Marks
 pub mod Pieces
 pub mod Finding
 pub mod Keys
