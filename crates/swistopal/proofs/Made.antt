@@ -3,8 +3,10 @@ use Prim.Native.Nat.{ℕ}
 use mathlib.Core.Path.{_≡_, refl, _∙_, ap}
 use mathlib.Core.List.{List, [], _∷_}
 use lib.ListN.{getD}
+use Rattle.units.specs.declared.Answer.{Answer}
 use Rattle.units.specs.Answers.{numberOf}
 use Rattle.record.specs.declared.Entry.{Entry}
+use Rattle.record.specs.Reading.{Told, told}
 use Rattle.commit_log.specs.declared.Appended.{Appended}
 use Rattle.commit_log.specs.Log as log
 use Rattle.consume_queue.specs.declared.QueueRead.{QueueRead}
@@ -17,16 +19,16 @@ use Rattle.machine.specs.Calls.{Call, call}
 use Rattle.dispatch.specs.declared.Dispatched.{Dispatched}
 use Rattle.dispatch.specs.Dispatch.{dispatcher}
 use Rattle.dispatch.specs.Inner.{stateOf, ranOf}
-use Rattle.swistopal.specs.Interface.{append, numbers, entryAnswer, readRecord, numbersFrom, stateIn, dispatch, readQueue, query, list}
+use Rattle.swistopal.specs.Interface.{append, readRecord, numbersFrom, stateIn, dispatch, readQueue, query, list}
 
 pub append-made : (r : Appended) (l : List ℕ) (n : ℕ) (o : log.Outcome) → record { made = r; log = l } ≡ o → n ≡ numberOf (r .answer)
     → record { answer = n; log = l; «write_position» = r .«write_position» .0 } ≡ append o
 unfolding append
 append-made r l n o e h = (λ i. record { answer = h i; log = l; «write_position» = r .«write_position» .0 }) ∙ ap append e
 
-pub record-read : (e x : Entry) (out : List ℕ) (n : ℕ) → e ≡ x → out ≡ numbers e → n ≡ numberOf (entryAnswer e) → record { answer = n; out = out } ≡ readRecord x
-unfolding readRecord
-record-read e x out n q o h = (λ i. record { answer = h i; out = o i }) ∙ ap readRecord q
+pub record-read : (a : Answer) (out : List ℕ) (n : ℕ) (e : Entry) → record { answer = a; out = out } ≡ told e → n ≡ numberOf a → record { answer = n; out = out } ≡ readRecord e
+unfolding told readRecord
+record-read a out n e t h = (λ i. record { answer = h i; out = out }) ∙ ap (λ (x : Told). record { answer = numberOf (x .answer); out = x .out }) t
 
 pub dispatched : (r : Dispatched) (counts counts′ queues queues′ index index′ progress progress′ : List ℕ) (n : ℕ) (c : Call dispatcher)
     → ranOf r counts′ queues′ index′ ≡ call dispatcher c (stateOf (record { 0 = getD progress 0 0 }) counts queues index)

@@ -5,7 +5,7 @@ ghost use Rattle.commit_log.specs.Log.{appended, entryIn};
 ghost use Rattle.consume_queue.specs.Queue.{queueRead};
 ghost use Rattle.index_file.specs.Query.{queried};
 ghost use Rattle.listing.specs.Listing.{listing};
-ghost use Rattle.swistopal.specs.Interface.{position, offset, geometry, sizes, fields, tagAsked, append, numbers, entryAnswer, readRecord, numbersFrom, stateIn, dispatch, readQueue, query, list};
+ghost use Rattle.swistopal.specs.Interface.{position, offset, geometry, sizes, fields, tagAsked, append, readRecord, numbersFrom, stateIn, dispatch, readQueue, query, list};
 ghost use Rattle.machine.specs.Calls.{call};
 ghost use Rattle.dispatch.specs.Dispatch.{dispatcher};
 ghost use Rattle.dispatch.specs.Inner.{callOf};
@@ -13,9 +13,7 @@ use commit_log::Geometry;
 use consume_queue::Tag;
 use dispatch::Sizes;
 use index_file::IndexSizes;
-use record::Entry;
 use record::Fields;
-use units::Answer;
 use units::LogPosition;
 use units::QueueOffset;
 
@@ -66,50 +64,6 @@ pub extern "C" fn swistopal_append(
     answer.number()
 }
 
-fn entry_answer(entry: Entry) -> Answer
-    ensures { λ r. ⌜ r ≡ entryAnswer entry ⌝ }
-{
-    match entry {
-        Entry::Stop(answer) => answer,
-        Entry::Blank(_) => Answer::Done,
-        Entry::Message(_) => Answer::Done,
-    }
-}
-
-fn put_numbers(entry: Entry, out: &mut [u64; 17])
-    ensures { λ _. ⌜ now (out .exit) ≡ numbers entry ⌝ }
-{
-    match entry {
-        Entry::Stop(_) => {
-            *out = [0, 0, 0, 0, 0, 0, 0, 0, 0, 0, 0, 0, 0, 0, 0, 0, 0];
-        }
-        Entry::Blank(n) => {
-            *out = [2, n, 0, 0, 0, 0, 0, 0, 0, 0, 0, 0, 0, 0, 0, 0, 0];
-        }
-        Entry::Message(m) => {
-            *out = [
-                1,
-                m.total,
-                m.fields.body_crc as u64,
-                m.fields.queue_id as u64,
-                m.fields.flag as u64,
-                m.fields.queue_offset.0,
-                m.position.0,
-                m.fields.system_flag as u64,
-                m.fields.born_time,
-                m.fields.born_host,
-                m.fields.store_time,
-                m.fields.store_host,
-                m.fields.reconsume_times as u64,
-                m.fields.prepared_offset,
-                m.body.len as u64,
-                m.topic.len as u64,
-                m.properties.len as u64,
-            ];
-        }
-    }
-}
-
 #[no_mangle]
 pub extern "C" fn swistopal_read_record(
     log: &[u8],
@@ -125,14 +79,13 @@ pub extern "C" fn swistopal_read_record(
         segment_size,
         first_position,
     };
-    let entry = commit_log::read_record(
+    let answer = commit_log::read_record(
         log,
         geometry,
         LogPosition(position),
         LogPosition(readable_end),
+        out,
     );
-    put_numbers(entry, out);
-    let answer = entry_answer(entry);
     answer.number()
 }
 

@@ -1,17 +1,11 @@
 -- `swistopal::swistopal_read_record` meets its contract. Assumes nothing.
-use mathlib.Core.Path.{_∙_, ap}
-use Rattle.units.specs.Answers.{numberOf}
 use Rattle.swistopal.proofs.Made.{record-read}
 use borrow.Author.Needs.{needs}
 use Rattle.swistopal.proofs.swistopal_read_record.Statement.{statement}
 use Rattle.swistopal.proofs.swistopal_read_record.Tie as tie
 
 returns : tie.Need-returns
-returns c =
-    record-read _ _ _ _
-    (c .before .before .before .before .read-record .ensures)
-    (c .before .before .put-numbers .ensures)
-    (c .number .ensures ∙ ap numberOf (c .before .entry-answer .ensures))
+returns c = record-read _ _ _ _ (c .before .read-record .ensures) (c .number .ensures)
 
 pub swistopal-read-record-spec : {M : Type 1} → statement M
-swistopal-read-record-spec = tie.close (tie.spec (search needs) (search needs) (search needs) (search needs) returns)
+swistopal-read-record-spec = tie.close (tie.spec (search needs) (search needs) returns)
