@@ -23,7 +23,6 @@ use Rattle.commit_log.specs.Log.{entryWithin}
 use Rattle.commit_log.specs.Claims.{placeBytes}
 use Rattle.dispatch.specs.declared.Duties.{Duties}
 use Rattle.dispatch.specs.declared.DispatchRequest.{DispatchRequest}
-use Rattle.dispatch.specs.declared.Next.{Next}
 use Rattle.dispatch.specs.declared.Next.the-variants.{Other, Request}
 use Rattle.dispatch.specs.Dispatch.{Fixed, View, State, dutiesOf, tagOf, recordHashes, filedAs, fileAs, fileOf, stepAs, stepOf}
 use Rattle.dispatch.specs.Inner.{Listed, Sound}
