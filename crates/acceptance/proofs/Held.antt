@@ -16,7 +16,8 @@ use Rattle.index_file.specs.Index.{sizesOk, untouched, headerSound, itemBytes, 
 use Rattle.index_file.specs.Items.{isFound, uniqueKey, keysAt, keysIn, itemKeys, itemHashes, isAhead, isFull, badSlot, anyBadSlot, itemsAnswer, putAll}
 use Rattle.machine.specs.Steps.{run, ranFrom, oneMore}
 use Rattle.machine.specs.Calls.{call, admit}
-use Rattle.dispatch.specs.Dispatch.{sizesFit, isRefused, progressBad, doorOf, transaction, duties, rowPlan, entryPlan, planAnswer, tagOf, recordHashes, queuesAfter, countsAfter, filedAs, unless, fileAs, fileOf, movedBy, stepAs, stepOf}
+use Rattle.dispatch_step.specs.Step.{transaction, duties, rowPlan, entryPlan, planAnswer, tagOf, recordHashes, queuesAfter, countsAfter, filedAs, unless, fileAs, fileOf, movedBy, stepAs, stepOf}
+use Rattle.dispatch.specs.Dispatch.{sizesFit, isRefused, progressBad, doorOf}
 use Rattle.acceptance.specs.Bench.{bench, BenchHolds}
 use Rattle.acceptance.specs.Examples.{property-examples, hash-examples, directory-examples, rows, examples, ExamplesHold}
 

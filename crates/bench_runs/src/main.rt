@@ -3,7 +3,7 @@
 // The other two: the system flag of a record of topic T and unique key k, then dispatch's answer, its steps, the queue's entries and the used count.
 ghost use Prim.Native.Nat.{_+_, _≤_};
 use commit_log::Geometry;
-use dispatch::Sizes;
+use dispatch_step::Sizes;
 use index_file::IndexSizes;
 use index_file::Queried;
 use record::Fields;

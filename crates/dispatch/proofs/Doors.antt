@@ -23,10 +23,12 @@ use Rattle.index_file.proofs.Judged.{sizes-facts, door-sized}
 use Rattle.machine.specs.Steps.{Ran, run}
 use Rattle.machine.specs.Calls.{accepted, refused, call}
 use Rattle.machine.proofs.Lists.{call-accepted, call-refused}
-use Rattle.dispatch.specs.declared.Sizes.{Sizes}
+use Rattle.dispatch_step.specs.declared.Sizes.{Sizes}
+use Rattle.dispatch_step.specs.Step.{Fixed, View, State, stepOf}
+use Rattle.dispatch_step.specs.Inner.{Sound}
 use Rattle.dispatch.specs.declared.Dispatched.{Dispatched}
-use Rattle.dispatch.specs.Dispatch.{Fixed, View, State, sizesFit, isRefused, progressBad, doorOf, stepOf, dispatcher}
-use Rattle.dispatch.specs.Inner.{ranOf, Sound}
+use Rattle.dispatch.specs.Dispatch.{sizesFit, isRefused, progressBad, doorOf, dispatcher}
+use Rattle.dispatch.specs.Inner.{ranOf}
 
 -- ---- the checks
 

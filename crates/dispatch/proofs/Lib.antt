@@ -1,9 +1,2 @@
-pub mod Advancing
 pub mod Doors
-pub mod Filing
-pub mod Moves
-pub mod Planning
-pub mod Reading
-pub mod Requests
 pub mod Running
-pub mod Stepping

@@ -1,39 +1,14 @@
--- What the inner functions of dispatch ask and promise. Assumes nothing.
-use Prim.Native.Nat.{ℕ, _+_, _<_, _≤_}
-use mathlib.Core.Path.{_≡_}
-use mathlib.Core.Bool.{Bool, true}
-use mathlib.Core.List.{List, []}
-use lib.ListN.{length, getD}
-use Rattle.codec.specs.Choice.{pick}
+-- A call and what it leaves, as the machine has them. Assumes nothing.
+use Prim.Native.Nat.{ℕ}
+use mathlib.Core.List.{List}
 use Rattle.units.specs.declared.LogPosition.{LogPosition}
-use Rattle.units.specs.declared.Answer.the-variants.{Done}
-use Rattle.directory.specs.declared.Listing.the-variants.{Rows}
-use Rattle.directory.specs.Directory.{queues as listedQueues}
-use Rattle.record.specs.declared.Record.{Record}
-use Rattle.record.specs.declared.Entry.the-variants.{Blank, Message}
-use Rattle.record.specs.Record.{fieldsSound}
-use Rattle.commit_log.specs.Inner.{GeometryFits, Within}
-use Rattle.consume_queue.specs.Queue.{entriesOk, queueRows, countsOk, entryPlace}
-use Rattle.index_file.specs.Inner.{Sized, Collected}
-use Rattle.index_file.specs.Items.{itemKeys, hashes, itemsAnswer}
-use Rattle.machine.specs.Steps.{Outcome, moved, stopped, Ran}
+use Rattle.machine.specs.Steps.{Ran}
 use Rattle.machine.specs.Calls.{Call}
-use Rattle.dispatch.specs.declared.Sizes.{Sizes}
-use Rattle.dispatch.specs.declared.Plan.{Plan}
-use Rattle.dispatch.specs.declared.Plan.the-variants.{Halt, Skip, Enter}
-use Rattle.dispatch.specs.declared.Stepped.{Stepped}
-use Rattle.dispatch.specs.declared.Stepped.the-variants.{Moved, Stopped}
+use Rattle.dispatch_step.specs.declared.Sizes.{Sizes}
+use Rattle.dispatch_step.specs.Step.{State}
+use Rattle.dispatch_step.specs.Inner.{fixedOf, viewOf, stateOf}
 use Rattle.dispatch.specs.declared.Dispatched.{Dispatched}
-use Rattle.dispatch.specs.Dispatch.{Fixed, View, State, entryHere, topicOf, propertiesOf, planOf, hashesOf, planAnswer, filedAs, movedBy, dispatcher}
-
-abbrev pub fixedOf : Sizes → List ℕ → Fixed
-fixedOf sizes directory = record { sizes = sizes; directory = directory }
-
-abbrev pub viewOf : List ℕ → LogPosition → View
-viewOf log end = record { log = log; end = end }
-
-abbrev pub stateOf : LogPosition → List ℕ → List ℕ → List ℕ → State
-stateOf position counts queues index = record { position = position; counts = counts; queues = queues; index = index }
+use Rattle.dispatch.specs.Dispatch.{dispatcher}
 
 abbrev pub callOf : Sizes → List ℕ → List ℕ → LogPosition → ℕ → Call dispatcher
 callOf sizes directory log end budget = record { fixed = fixedOf sizes directory; view = viewOf log end; budget = budget }
@@ -41,73 +16,3 @@ callOf sizes directory log end budget = record { fixed = fixedOf sizes directory
 -- what a call returns and leaves, as the machine's
 abbrev pub ranOf : Dispatched → List ℕ → List ℕ → List ℕ → Ran State
 ranOf r counts queues index = record { answer = r .answer; steps = r .steps; state = stateOf (r .position) counts queues index }
-
--- what checks 1, 3, 2 and 4 leave for filing
-pub record Ready (f : Fixed) (counts queues index : List ℕ) : Type 0 where
-  pub rows : ℕ
-  pub entries : entriesOk (f .sizes .entries) ≡ true
-  pub listed : queueRows (f .directory) (f .sizes .entries) (length queues) ≡ Rows rows
-  pub counted : countsOk 16 (f .sizes .entries) counts ≡ true
-  pub sized : Sized (f .sizes .index .«slot_count») (f .sizes .index .«item_count») index
-
--- the directory has passed its check
-pub record Listed (directory : List ℕ) : Type 0 where
-  pub some : 0 < length (listedQueues directory)
-  pub few : length (listedQueues directory) ≤ 16
-
--- the index hashes of the items that a record makes, from the hash of topic and `#`
-unfoldable pub hashesIf : Bool → ℕ → List ℕ → List ℕ
-hashesIf makes prefix properties = pick makes (hashes prefix (itemKeys properties)) []
-
--- the items of a record that makes them, collected
-abbrev pub CollectedIf : Bool → ℕ → List ℕ → ℕ → List ℕ → Type 0
-CollectedIf makes prefix properties items list = makes ≡ true → Collected prefix properties items list
-
--- the entry has its place
-unfoldable pub Enterable : Plan → ℕ → List ℕ → List ℕ → Type 0
-Enterable (Halt a) r counts queues = Unit {0}
-Enterable Skip r counts queues = Unit {0}
-Enterable (Enter i) r counts queues = (i < 16) × (r ≤ 300000) × (getD counts i 0 < r) × (entryPlace r i (getD counts i 0) + 20 ≤ length queues)
-
--- and for a step
-pub record Sound (f : Fixed) (v : View) (s : State) : Type 0 where
-  pub geometry : GeometryFits (f .sizes .geometry) (length (v .log))
-  pub within : Within (f .sizes .geometry) (length (v .log)) (s .position) (v .end)
-  pub ready : Ready f (s .counts) (s .queues) (s .index)
-
--- the function's answer to an outcome
-unfoldable pub steppedOf : Outcome State → Stepped
-steppedOf (moved t) = Moved (t .position)
-steppedOf (stopped a) = Stopped a
-
--- "Whole steps": what an outcome leaves of s
-unfoldable pub leftOf : Outcome State → State → State
-leftOf (moved t) s = t
-leftOf (stopped a) s = s
-
--- the position after an answer at p
-unfoldable pub positionAfter : Stepped → LogPosition → LogPosition
-positionAfter (Moved q) p = q
-positionAfter (Stopped a) p = p
-
--- the answer r and the bytes left are the outcome's
-pub record Did (o : Outcome State) (s : State) (r : Stepped) (counts queues index : List ℕ) : Type 0 where
-  pub ended : r ≡ steppedOf o
-  pub left : stateOf (positionAfter r (s .position)) counts queues index ≡ leftOf o s
-
--- ---- what a step that is done read, and what it changed
-
--- the record m, filed
-pub record Filed (f : Fixed) (v : View) (s : State) (m : Record) (t : State) : Type 0 where
-  pub here : m .position ≡ s .position
-  pub least : 92 ≤ m .total
-  pub most : m .total ≤ 4194304
-  pub below : s .position .0 + m .total ≤ v .end .0
-  pub numbers : fieldsSound (m .fields) ≡ true
-  pub entered : planAnswer (planOf f v s m) ≡ Done
-  pub checked : itemsAnswer (f .sizes .index .«slot_count») (f .sizes .index .«item_count») (s .index) (m .position .0) (hashesOf f v s m) ≡ Done
-  pub left : t ≡ filedAs (planOf f v s m) (hashesOf f v s m) f m (propertiesOf f v s m) s
-
-pub data Moves (f : Fixed) (v : View) (s t : State) : Type 0 where
-  over-blank : (n : ℕ) → entryHere f v s ≡ Blank n → 8 ≤ n → s .position .0 + n ≤ v .end .0 → t ≡ movedBy n s → Moves f v s t
-  over-record : (m : Record) → entryHere f v s ≡ Message m → Filed f v s m t → Moves f v s t

@@ -1,3 +1,2 @@
 pub mod Dispatch
 pub mod Inner
-pub mod Ahead

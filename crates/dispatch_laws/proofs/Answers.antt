@@ -22,7 +22,7 @@ use Rattle.commit_log.specs.Log.{segmentRest, seen, entryWithin}
 use Rattle.commit_log.proofs.Outcomes.{pick-either}
 use Rattle.index_file.specs.Items.{isAhead, isFull, anyBadSlot, itemsAnswer}
 use Rattle.machine.specs.Steps.{Outcome, moved, stopped}
-use Rattle.dispatch.specs.Dispatch.{Fixed, View, State, rowPlan, entryPlan, planAnswer, unless, dutiesOf, topicOf, planOf, hashesOf, fileAs, fileOf, entryHere, stepAs, stepOf}
+use Rattle.dispatch_step.specs.Step.{Fixed, View, State, rowPlan, entryPlan, planAnswer, unless, dutiesOf, topicOf, planOf, hashesOf, fileAs, fileOf, entryHere, stepAs, stepOf}
 use Rattle.dispatch_laws.specs.Claims.{NeverSpent}
 
 -- the answers of rules 1 to 7, but for a spent budget: 0, 8, 10 to 16

@@ -23,10 +23,11 @@ use Rattle.index_file.proofs.Exact.{query-exact}
 use Rattle.machine.specs.Steps.{Outcome, moved, stopped, andThen, walk}
 use Rattle.machine.specs.Calls.{total, final, Leads}
 use Rattle.machine.proofs.Steps.{moved-inj, never}
-use Rattle.dispatch.specs.declared.Sizes.{Sizes}
-use Rattle.dispatch.specs.Dispatch.{Fixed, View, State, sizesFit, recordHashes, filedAs, entryHere, movedBy, stepOf, hashesOf, dispatcher}
-use Rattle.dispatch.specs.Inner.{Moves, over-blank, over-record}
-use Rattle.dispatch.proofs.Moves.{moves}
+use Rattle.dispatch_step.specs.declared.Sizes.{Sizes}
+use Rattle.dispatch_step.specs.Step.{Fixed, View, State, recordHashes, filedAs, entryHere, movedBy, stepOf, hashesOf}
+use Rattle.dispatch_step.specs.Inner.{Moves, over-blank, over-record}
+use Rattle.dispatch_step.proofs.Moves.{moves}
+use Rattle.dispatch.specs.Dispatch.{sizesFit, dispatcher}
 use Rattle.dispatch_laws.specs.History.{putBy, onward, puts}
 use Rattle.dispatch_laws.specs.Claims.{QueryAfterCalls, QueryAfterRisingTimes}
 use Rattle.dispatch_laws.proofs.Doors.{opened, bounded-log}

@@ -7,9 +7,10 @@ use native.Mathlib.Omega.{arith}
 use Rattle.machine.specs.Calls.{Door, accepted, refused, Machine, Call, keepIf, latest, doorAt, Report, Chain, total, final, passed, Steady, Leads}
 use Rattle.machine.specs.Claims.{Laws, Climbs}
 use Rattle.machine.proofs.Lists.{resumes, bounded}
-use Rattle.dispatch.specs.Dispatch.{Fixed, View, State, movedBy, filedAs, dispatcher}
-use Rattle.dispatch.specs.Inner.{Moves, over-blank, over-record}
-use Rattle.dispatch.proofs.Moves.{moves}
+use Rattle.dispatch_step.specs.Step.{Fixed, View, State, movedBy, filedAs}
+use Rattle.dispatch_step.specs.Inner.{Moves, over-blank, over-record}
+use Rattle.dispatch_step.proofs.Moves.{moves}
+use Rattle.dispatch.specs.Dispatch.{dispatcher}
 use Rattle.dispatch_laws.specs.Claims.{Demand3, BudgetAbove}
 use Rattle.dispatch_laws.proofs.Doors.{opened, bounded-log, reopened}
 use Rattle.dispatch_laws.proofs.Stable.{stable}

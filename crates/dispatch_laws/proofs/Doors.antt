@@ -14,7 +14,8 @@ use Rattle.commit_log.proofs.Doors.{geometry-fits, within, inside}
 use Rattle.consume_queue.specs.Queue.{entriesOk, queueRows, countsOk}
 use Rattle.index_file.specs.Index.{sizesOk, headerSound}
 use Rattle.machine.specs.Calls.{accepted, refused}
-use Rattle.dispatch.specs.Dispatch.{Fixed, View, State, sizesFit, isRefused, progressBad, doorOf, Extended}
+use Rattle.dispatch_step.specs.Step.{Fixed, View, State}
+use Rattle.dispatch.specs.Dispatch.{sizesFit, isRefused, progressBad, doorOf, Extended}
 
 shut : {a : Answer} → refused a ≡ accepted → ⊥
 shut e = let z : _≡_ {A = ℕ} 0 1 = cc in omega arith

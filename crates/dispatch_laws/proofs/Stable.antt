@@ -20,9 +20,10 @@ use Rattle.commit_log.specs.Log.{segmentRest, seen, entryWithin}
 use Rattle.commit_log.specs.Claims.{placeBytes, Extends}
 use Rattle.commit_log.proofs.Stays.{entry-stays}
 use Rattle.machine.specs.Steps.{moved}
-use Rattle.dispatch.specs.Dispatch.{Fixed, View, State, entryHere, topicOf, propertiesOf, stepAs, stepOf, Extended}
-use Rattle.dispatch.specs.Inner.{Moves, over-blank, over-record}
-use Rattle.dispatch.proofs.Moves.{moves}
+use Rattle.dispatch_step.specs.Step.{Fixed, View, State, entryHere, topicOf, propertiesOf, stepAs, stepOf}
+use Rattle.dispatch_step.specs.Inner.{Moves, over-blank, over-record}
+use Rattle.dispatch_step.proofs.Moves.{moves}
+use Rattle.dispatch.specs.Dispatch.{Extended}
 
 -- bytes below the readable end
 part-stays : (g : Geometry) (log log′ : List ℕ) (e e′ : LogPosition) (n at : ℕ) → Extends g log log′ e e′ → g .«first_position» + (at + n) ≤ e .0

@@ -13,7 +13,8 @@ use Rattle.index_file.specs.Claims.{Finds}
 use Rattle.machine.specs.Steps.{stopped}
 use Rattle.machine.specs.Calls.{Call, Report, Chain, total, final, passed, Steady, latest}
 use Rattle.machine.specs.Claims.{Resumed}
-use Rattle.dispatch.specs.Dispatch.{Fixed, View, State, stepOf, dispatcher}
+use Rattle.dispatch_step.specs.Step.{Fixed, View, State, stepOf}
+use Rattle.dispatch.specs.Dispatch.{dispatcher}
 use Rattle.dispatch_laws.specs.History.{puts}
 
 -- demand 3, whole: of every list of calls that were made, each report being what `dispatch` promises of its arguments

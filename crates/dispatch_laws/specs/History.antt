@@ -5,7 +5,7 @@ use Rattle.record.specs.declared.Entry.{Entry}
 use Rattle.record.specs.declared.Entry.the-variants.{Stop, Blank, Message}
 use Rattle.index_file.specs.History.{Put, filed}
 use Rattle.machine.specs.Steps.{Outcome, moved, stopped}
-use Rattle.dispatch.specs.Dispatch.{Fixed, View, State, entryHere, hashesOf, stepOf}
+use Rattle.dispatch_step.specs.Step.{Fixed, View, State, entryHere, hashesOf, stepOf}
 
 -- the items of the entry at a state's position, put on ps: "First the unique key, then each non-empty part of KEYS"
 unfoldable pub putBy : Fixed → View → State → Entry → List Put → List Put

@@ -16,9 +16,10 @@ use Rattle.index_file.specs.Query as index
 use Rattle.listing.specs.declared.Listed.{Listed}
 use Rattle.listing.specs.Listing as lister
 use Rattle.machine.specs.Calls.{Call, call}
+use Rattle.dispatch_step.specs.Inner.{stateOf}
 use Rattle.dispatch.specs.declared.Dispatched.{Dispatched}
 use Rattle.dispatch.specs.Dispatch.{dispatcher}
-use Rattle.dispatch.specs.Inner.{stateOf, ranOf}
+use Rattle.dispatch.specs.Inner.{ranOf}
 use Rattle.swistopal.specs.Interface.{append, readRecord, numbersFrom, stateIn, dispatch, readQueue, query, list}
 
 pub append-made : (r : Appended) (l : List ℕ) (n : ℕ) (o : log.Outcome) → record { made = r; log = l } ≡ o → n ≡ numberOf (r .answer)

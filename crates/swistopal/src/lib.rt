@@ -11,7 +11,7 @@ ghost use Rattle.dispatch.specs.Dispatch.{dispatcher};
 ghost use Rattle.dispatch.specs.Inner.{callOf};
 use commit_log::Geometry;
 use consume_queue::Tag;
-use dispatch::Sizes;
+use dispatch_step::Sizes;
 use index_file::IndexSizes;
 use record::Fields;
 use units::LogPosition;

@@ -3,8 +3,9 @@ use Prim.Native.Nat.{_-_}
 use native.Mathlib.Omega.{arith}
 use mathlib.Core.Path.{_≡_, sym}
 use lib.ListN.{length}
-use Rattle.dispatch.specs.Inner.{fixedOf, viewOf, stateOf}
-use Rattle.dispatch.proofs.Running.{Going, going-start, going-far, going-on, going-stop, going-spent}
+use Rattle.dispatch_step.specs.Inner.{fixedOf, viewOf, stateOf}
+use Rattle.dispatch_step.proofs.Going.{Going, going-start, going-far}
+use Rattle.dispatch.proofs.Running.{going-on, going-stop, going-spent}
 use borrow.Author.Needs.{needs}
 use Rattle.dispatch.proofs.run_steps.Statement.{statement}
 use Rattle.dispatch.proofs.run_steps.Tie as tie

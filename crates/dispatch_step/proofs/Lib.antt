@@ -1,0 +1,5 @@
+pub mod Filing
+pub mod Going
+pub mod Moves
+pub mod Planning
+pub mod Stepping
