@@ -228,7 +228,7 @@ fn file_request(
 
 // Steps from a position on, up to so many: records are read ahead, all their slots are judged, one close behind the other, and the records
 // are filed one by one. A slot that is good before them stays good. It ends, perhaps without a step, before anything but a record that is
-// filed so.
+// filed so. How many steps it makes is left open; what they leave is not.
 pub fn advance(
     log: &[u8],
     readable_end: LogPosition,

@@ -70,7 +70,7 @@ pub record Added (hs : List ℕ) (n : ℕ) (list : List ℕ) (r : ℕ) (after : 
   pub long : length after ≡ length list
   pub listed : r ≤ length after → take r after ≡ take n list ++ hs
 
--- a record's items, counted; the list holds their hashes if it has the places
+-- a record's items, counted; the list holds their hashes if it has the places. What else it holds is left open: it is scratch, no rule speaks of it
 pub record Collected (prefix : ℕ) (properties : List ℕ) (r : ℕ) (list : List ℕ) : Type 0 where
   pub number : r ≡ length (itemKeys properties)
   pub few : 2 * r ≤ length properties + 3
