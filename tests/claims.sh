@@ -1,6 +1,7 @@
 #!/usr/bin/env bash
-# docs/CLAIMS.md against the tree: every file, name, test and wrong program that it names is there, and every public function has a row with two
-# wrong programs or more. Prints what does not hold, exit 1 if anything does not.
+# docs/CLAIMS.md against the tree: every file, name, test and wrong program that it names is there, it names every statement of a
+# specs/Claims.antt, and it has a row with two wrong programs or more for every public function. Prints what does not hold, exit 1 if anything
+# does not.
 set -u
 cd "$(dirname "$0")/.." || exit 1
 exec python3 - <<'PYTHON'
@@ -46,6 +47,9 @@ for number, line in enumerate(open("docs/CLAIMS.md"), 1):
         faults += [f"docs/CLAIMS.md:{number}: reference/model/{test} is not there" for test in re.findall(r"\(model\) (tests/\w+\.rs)", cell) if not os.path.exists(f"reference/model/{test}")]
         for code in re.findall(r"`([^`]*)`", cell):
             faults += [f"docs/CLAIMS.md:{number}: no crate has `{name}`" for name in re.findall(r"[A-Za-z_][\w′-]*(?!\*)\b", code) if name not in words]
+claims = open("docs/CLAIMS.md").read()
+for statements in sorted(glob.glob("crates/*/specs/Claims.antt")):
+    faults += [f"docs/CLAIMS.md: it does not name `{name}` of {statements}" for name in re.findall(r"^abbrev pub (\w+) : Type", open(statements).read(), re.M) if f"`{name}`" not in claims]
 for document in ("docs/DECISIONS.md", "docs/PROOFS.md"):
     for number, line in enumerate(open(document), 1):
         wrong_programs(document, number, line)

@@ -3,7 +3,7 @@ ghost use mathlib.Core.Path.{_≡_};
 ghost use Prim.Native.Nat.{_+_, _*_, _<_, _≤_};
 ghost use mathlib.Core.Bool.{true};
 ghost use mathlib.Core.List.{[], _∷_};
-ghost use lib.ListN.{length, take};
+ghost use lib.ListN.{length};
 ghost use Rattle.codec.specs.Bytes.{overwrite};
 ghost use Rattle.java_hash.specs.Hash.{keyHash, indexHash, slotOf};
 ghost use Rattle.units.specs.declared.Place.{Place};

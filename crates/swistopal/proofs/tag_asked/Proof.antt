@@ -1,9 +1,7 @@
 -- `swistopal::tag_asked` meets its contract. Assumes nothing.
-use lib.Dec.{eqb}
 use borrow.Author.Tests.{eq-eqb, ne-eqb}
 use Rattle.codec.specs.Choice.{pick}
 use Rattle.swistopal.specs.Interface.{tagAsked}
-use borrow.Author.Needs.{needs}
 use Rattle.swistopal.proofs.tag_asked.Statement.{statement}
 use Rattle.swistopal.proofs.tag_asked.Tie as tie
 
