@@ -14,7 +14,7 @@ pub struct Args {
 
 impl Args {
     pub fn parse(
-        words: impl Iterator<Item = OsString>,
+        mut words: impl Iterator<Item = OsString>,
         flags: &[&'static str],
         values: &[&'static str],
     ) -> Result<Args, Failure> {
@@ -24,7 +24,6 @@ impl Args {
             flags: Vec::new(),
             values: Vec::new(),
         };
-        let mut words = words.peekable();
         let mut only_places = false;
         while let Some(word) = words.next() {
             let bytes = word.as_bytes();
