@@ -4,7 +4,7 @@ use crate::args::{number, Args};
 use crate::failure::{fault, usage, At, Failure};
 use crate::map::{page_size, View};
 use crate::note;
-use crate::text::grouped;
+use crate::text::{grouped, shown_path};
 use std::fs::{self, File};
 use std::io::Read;
 use std::ops::Deref;
@@ -252,13 +252,13 @@ fn segment(path: PathBuf, first: u64) -> Result<Segment, Failure> {
 
 fn found_segments(store: &Path) -> Result<Vec<Segment>, Failure> {
     if !store.exists() {
-        return usage(format!("{}: there is no such folder", store.display()));
+        return usage(format!("{}: there is no such folder", shown_path(store)));
     }
     let folder = store.join("commitlog");
     if !folder.is_dir() {
         return usage(format!(
             "{}: no folder commitlog in it; a store has commitlog, consumequeue and index",
-            store.display()
+            shown_path(store)
         ));
     }
     let mut segments = Vec::new();
@@ -272,7 +272,7 @@ fn found_segments(store: &Path) -> Result<Vec<Segment>, Failure> {
     if segments.is_empty() {
         return fault(format!(
             "{}: no segment in it; their names are positions of 20 digits",
-            folder.display()
+            shown_path(folder)
         ));
     }
     segments.sort_by_key(|segment| segment.first);
@@ -292,7 +292,7 @@ fn segment_size(segments: &[Segment], asked: Option<u64>) -> Result<u64, Failure
         (None, Some(second)) if second.length != *length => second.first - first,
         (None, _) => *length,
     };
-    let path = path.display();
+    let path = shown_path(path);
     if !(SEGMENT_SIZES.0..=SEGMENT_SIZES.1).contains(&size) {
         return fault(format!(
             "{path}: {} bytes are no segment; one has {} to {}",
@@ -318,7 +318,7 @@ fn contiguous<'s>(
 ) -> Result<&'s [Segment], Failure> {
     let mut taken = 0;
     for segment in segments {
-        let path = segment.path.display();
+        let path = shown_path(&segment.path);
         let expected = segments[0].first.saturating_add(taken as u64 * size);
         if segment.first != expected {
             faults.push(format!(
@@ -371,7 +371,7 @@ fn lend(segments: &[Segment], size: u64) -> Result<Bytes, Failure> {
     if total > COPY_LIMIT {
         return fault(format!(
             "{}: segments of {size} bytes, no multiple of the page size {}, are read up to {} bytes in all",
-            segments[0].path.display(),
+            shown_path(&segments[0].path),
             page_size(),
             grouped(COPY_LIMIT)
         ));
