@@ -279,23 +279,22 @@ fn found_segments(store: &Path) -> Result<Vec<Segment>, Failure> {
     Ok(segments)
 }
 
-/// What was asked for, else the length that the first two files share, else the distance of their names, which tells a
-/// first file that was cut short; else the only file's length.
 fn segment_size(segments: &[Segment], asked: Option<u64>) -> Result<u64, Failure> {
+    let size = asked.unwrap_or_else(|| size_by_files(segments));
     let Segment {
         path,
         first,
         length,
     } = &segments[0];
-    let size = match (asked, segments.get(1)) {
-        (Some(asked), _) => asked,
-        (None, Some(second)) if second.length != *length => second.first - first,
-        (None, _) => *length,
-    };
     let path = shown_path(path);
-    if !(SEGMENT_SIZES.0..=SEGMENT_SIZES.1).contains(&size) {
+    if !size_permitted(size) {
+        let which = if size == *length {
+            ""
+        } else {
+            " up to the next file"
+        };
         return fault(format!(
-            "{path}: {} bytes are no segment; one has {} to {}",
+            "{path}: {} bytes{which} are no segment; one has {} to {}, and --segment-size tells how many",
             grouped(size),
             grouped(SEGMENT_SIZES.0),
             grouped(SEGMENT_SIZES.1)
@@ -308,6 +307,25 @@ fn segment_size(segments: &[Segment], asked: Option<u64>) -> Result<u64, Failure
         ));
     }
     Ok(size)
+}
+
+fn size_permitted(size: u64) -> bool {
+    (SEGMENT_SIZES.0..=SEGMENT_SIZES.1).contains(&size)
+}
+
+/// The longest file's length, if every file starts at a multiple of it: others may be missing or cut short. Otherwise the
+/// length that the first two files share, or the distance of their names.
+fn size_by_files(segments: &[Segment]) -> u64 {
+    let longest = segments.iter().map(|segment| segment.length).max();
+    let fits = |size: &u64| {
+        let mut starts = segments.iter().map(|segment| segment.first);
+        size_permitted(*size) && starts.all(|start| start.is_multiple_of(*size))
+    };
+    match (longest.filter(fits), segments) {
+        (Some(longest), _) => longest,
+        (None, [first, second, ..]) if second.length != first.length => second.first - first.first,
+        (None, _) => segments[0].length,
+    }
 }
 
 /// The segments from the first one on that follow each other without a hole; the last one may be short.
