@@ -12,6 +12,7 @@ mod journal;
 mod list;
 mod log;
 mod map;
+mod medium;
 mod meter;
 mod plan;
 mod properties;

@@ -4,8 +4,10 @@ mod common;
 
 use common::*;
 use std::fs::{self, OpenOptions};
+use std::io::Read;
 use std::os::unix::fs::symlink;
 use std::path::Path;
+use std::process::{Command, Stdio};
 
 /// A name that clears a terminal and goes on in another line.
 const NAME: &str = "\x1b[2J\nX";
@@ -156,4 +158,35 @@ fn what_a_log_lacks_begins_with_the_segment() {
     told(65_536, "65,537 bytes, though a segment has 65,536");
     cut(&segment(&store, 65_536), 65_535);
     told(65_536, "65,535 bytes of 65,536; it is cut short");
+}
+
+/// Whoever lists cannot be far when its first byte comes: the pipe takes less than a quarter of what stands before the cut.
+#[test]
+fn a_segment_that_is_cut_while_it_is_read() {
+    const CUT: u64 = 4 << 20;
+    let folder = Folder::new("cut");
+    let store = folder.join("store");
+    made(&store, 0, 8 << 20, 80_000, |position, number| {
+        record(position, b"T", (0, number), 1000, b"")
+    });
+    let path = segment(&store, 0).canonicalize().unwrap();
+    let mut list = Command::new(TOOL);
+    list.arg("list").arg(&store);
+    list.stdout(Stdio::piped()).stderr(Stdio::piped());
+    let mut list = list.spawn().unwrap();
+    let out = list.stdout.as_mut().unwrap();
+    out.read_exact(&mut [0]).unwrap();
+    cut(&path, CUT);
+    let ended = list.wait_with_output().unwrap();
+    let said = String::from_utf8(ended.stderr).unwrap();
+    assert_eq!(ended.status.code(), Some(1), "{said}");
+    let place = said.strip_prefix(&format!("swistopal: {}: byte ", path.display()));
+    let (byte, sentence) = place.and_then(|place| place.split_once(' ')).expect(&said);
+    // It is one of the record that stands across the cut, or of the next one.
+    assert!((CUT..CUT + 92).contains(&byte.parse().unwrap()), "{said}");
+    assert_eq!(
+        sentence,
+        "cannot be read: the medium has a fault there, or the file was cut; copy the store to a sound disk \
+         and work on the copy; a rebuild under way begins anew there with --restart\n"
+    );
 }
