@@ -41,7 +41,7 @@ static const uint8_t *bytes(const char *text)
     return (const uint8_t *)text;
 }
 
-/* One event of a parcel: its number is the unique key, its chute the tag. */
+/* One event of a parcel: the parcel is the unique key, and the tag says whether the event's number is odd or even. */
 static uint32_t append_event(unsigned number, uint64_t store_time, uint64_t *write_position)
 {
     char body[32];

@@ -1,6 +1,7 @@
 //! The command line: `--name value`, `--name=value`, flags, and one place. Values are bytes, as keys may be any.
 
 use crate::failure::{usage, Failure};
+use crate::text::shown;
 use crate::time;
 use std::ffi::{OsStr, OsString};
 use std::os::unix::ffi::{OsStrExt, OsStringExt};
@@ -14,7 +15,7 @@ pub struct Args {
 
 impl Args {
     pub fn parse(
-        words: impl Iterator<Item = OsString>,
+        mut words: impl Iterator<Item = OsString>,
         flags: &[&'static str],
         values: &[&'static str],
     ) -> Result<Args, Failure> {
@@ -24,7 +25,6 @@ impl Args {
             flags: Vec::new(),
             values: Vec::new(),
         };
-        let mut words = words.peekable();
         let mut only_places = false;
         while let Some(word) = words.next() {
             let bytes = word.as_bytes();
@@ -34,7 +34,7 @@ impl Args {
             }
             if only_places || !bytes.starts_with(b"-") || bytes == b"-" {
                 if place.replace(PathBuf::from(&word)).is_some() {
-                    return usage(format!("{}: one place is enough", word.display()));
+                    return usage(format!("{}: one place is enough", shown(bytes)));
                 }
                 continue;
             }
@@ -64,8 +64,7 @@ impl Args {
                 }
                 given.values.push((option, value));
             } else {
-                let name = OsStr::from_bytes(name);
-                return usage(format!("no such option: {}", name.display()));
+                return usage(format!("no such option: {}", shown(name)));
             }
         }
         match place {
@@ -106,7 +105,7 @@ impl Args {
             Some(number) if (low..=high).contains(&number) => Ok(Some(number)),
             _ => usage(format!(
                 "{name} {}: a number from {low} to {high} is needed",
-                value.display()
+                shown(value.as_bytes())
             )),
         }
     }
@@ -122,7 +121,7 @@ impl Args {
             Some(time) => Ok(Some(time)),
             None => usage(format!(
                 "{name} {}: a time is milliseconds from 0 to {}, or RFC 3339 from 1970 on, as 2026-03-02T06:00:00Z",
-                value.display(),
+                shown(value.as_bytes()),
                 time::LAST
             )),
         }

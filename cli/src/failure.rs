@@ -1,5 +1,6 @@
 //! How a command ends.
 
+use crate::text::shown_path;
 use std::fmt::Display;
 use std::io;
 use std::path::Path;
@@ -48,6 +49,8 @@ pub trait At<T> {
 
 impl<T, E: Display> At<T> for Result<T, E> {
     fn at(self, doing: &str, path: &Path) -> Result<T, Failure> {
-        self.map_err(|error| Failure::Fault(format!("cannot {doing} {}: {error}", path.display())))
+        self.map_err(|error| {
+            Failure::Fault(format!("cannot {doing} {}: {error}", shown_path(path)))
+        })
     }
 }

@@ -4,7 +4,7 @@ use crate::args::{number, Args};
 use crate::failure::{fault, usage, At, Failure};
 use crate::map::{page_size, View};
 use crate::note;
-use crate::text::grouped;
+use crate::text::{grouped, shown_path};
 use std::fs::{self, File};
 use std::io::Read;
 use std::ops::Deref;
@@ -252,13 +252,13 @@ fn segment(path: PathBuf, first: u64) -> Result<Segment, Failure> {
 
 fn found_segments(store: &Path) -> Result<Vec<Segment>, Failure> {
     if !store.exists() {
-        return usage(format!("{}: there is no such folder", store.display()));
+        return usage(format!("{}: there is no such folder", shown_path(store)));
     }
     let folder = store.join("commitlog");
     if !folder.is_dir() {
         return usage(format!(
             "{}: no folder commitlog in it; a store has commitlog, consumequeue and index",
-            store.display()
+            shown_path(store)
         ));
     }
     let mut segments = Vec::new();
@@ -272,30 +272,29 @@ fn found_segments(store: &Path) -> Result<Vec<Segment>, Failure> {
     if segments.is_empty() {
         return fault(format!(
             "{}: no segment in it; their names are positions of 20 digits",
-            folder.display()
+            shown_path(folder)
         ));
     }
     segments.sort_by_key(|segment| segment.first);
     Ok(segments)
 }
 
-/// What was asked for, else the length that the first two files share, else the distance of their names, which tells a
-/// first file that was cut short; else the only file's length.
 fn segment_size(segments: &[Segment], asked: Option<u64>) -> Result<u64, Failure> {
+    let size = asked.unwrap_or_else(|| size_by_files(segments));
     let Segment {
         path,
         first,
         length,
     } = &segments[0];
-    let size = match (asked, segments.get(1)) {
-        (Some(asked), _) => asked,
-        (None, Some(second)) if second.length != *length => second.first - first,
-        (None, _) => *length,
-    };
-    let path = path.display();
-    if !(SEGMENT_SIZES.0..=SEGMENT_SIZES.1).contains(&size) {
+    let path = shown_path(path);
+    if !size_permitted(size) {
+        let which = if size == *length {
+            ""
+        } else {
+            " up to the next file"
+        };
         return fault(format!(
-            "{path}: {} bytes are no segment; one has {} to {}",
+            "{path}: {} bytes{which} are no segment; one has {} to {}, and --segment-size tells how many",
             grouped(size),
             grouped(SEGMENT_SIZES.0),
             grouped(SEGMENT_SIZES.1)
@@ -310,6 +309,25 @@ fn segment_size(segments: &[Segment], asked: Option<u64>) -> Result<u64, Failure
     Ok(size)
 }
 
+fn size_permitted(size: u64) -> bool {
+    (SEGMENT_SIZES.0..=SEGMENT_SIZES.1).contains(&size)
+}
+
+/// The longest file's length, if every file starts at a multiple of it: others may be missing or cut short. Otherwise the
+/// length that the first two files share, or the distance of their names.
+fn size_by_files(segments: &[Segment]) -> u64 {
+    let longest = segments.iter().map(|segment| segment.length).max();
+    let fits = |size: &u64| {
+        let mut starts = segments.iter().map(|segment| segment.first);
+        size_permitted(*size) && starts.all(|start| start.is_multiple_of(*size))
+    };
+    match (longest.filter(fits), segments) {
+        (Some(longest), _) => longest,
+        (None, [first, second, ..]) if second.length != first.length => second.first - first.first,
+        (None, _) => segments[0].length,
+    }
+}
+
 /// The segments from the first one on that follow each other without a hole; the last one may be short.
 fn contiguous<'s>(
     segments: &'s [Segment],
@@ -318,7 +336,7 @@ fn contiguous<'s>(
 ) -> Result<&'s [Segment], Failure> {
     let mut taken = 0;
     for segment in segments {
-        let path = segment.path.display();
+        let path = shown_path(&segment.path);
         let expected = segments[0].first.saturating_add(taken as u64 * size);
         if segment.first != expected {
             faults.push(format!(
@@ -371,7 +389,7 @@ fn lend(segments: &[Segment], size: u64) -> Result<Bytes, Failure> {
     if total > COPY_LIMIT {
         return fault(format!(
             "{}: segments of {size} bytes, no multiple of the page size {}, are read up to {} bytes in all",
-            segments[0].path.display(),
+            shown_path(&segments[0].path),
             page_size(),
             grouped(COPY_LIMIT)
         ));

@@ -12,6 +12,7 @@ mod journal;
 mod list;
 mod log;
 mod map;
+mod medium;
 mod meter;
 mod plan;
 mod properties;
@@ -29,6 +30,7 @@ use failure::{usage, Failure, Outcome};
 use std::env;
 use std::ffi::OsString;
 use std::io::{self, BufWriter, StdoutLock, Write};
+use std::os::unix::ffi::OsStrExt;
 use std::process::ExitCode;
 
 struct Command {
@@ -159,7 +161,7 @@ fn run() -> Result<Outcome, Failure> {
     let Some(command) = command(&name) else {
         return usage(format!(
             "no such command: {}; swistopal --help shows them",
-            name.display()
+            text::shown(name.as_bytes())
         ));
     };
     if rest.iter().any(|word| word == "--help" || word == "-h") {

@@ -1,4 +1,4 @@
-//! Files as memory. Everything `unsafe` of the tool is here.
+//! Files as memory. Everything `unsafe` of the tool is here and in `medium`, which tells of bytes that cannot be read.
 //!
 //! Every mapping is private: no byte of a file is ever changed through one. A read-only mapping is also made from a file
 //! that was opened for reading alone.
@@ -8,8 +8,9 @@
 //! tool asks of its users (a store is read while no broker writes it); of the work files of a rebuild the lock sees to it.
 
 #[cfg(not(all(target_os = "linux", target_pointer_width = "64")))]
-compile_error!("the constants and types of mmap below are those of 64-bit Linux");
+compile_error!("the constants and types of mmap and sigaction are those of 64-bit Linux");
 
+use crate::medium::Watch;
 use std::ffi::{c_int, c_void};
 use std::fs::File;
 use std::io;
@@ -48,13 +49,18 @@ pub fn page_size() -> u64 {
 struct Mapping {
     start: *mut u8,
     length: usize,
+    watch: Option<Watch>,
 }
 
 impl Mapping {
     fn new(length: usize, protection: c_int, flags: c_int, file: c_int) -> io::Result<Mapping> {
         if length == 0 {
             let start = ptr::NonNull::dangling().as_ptr();
-            return Ok(Mapping { start, length });
+            return Ok(Mapping {
+                start,
+                length,
+                watch: None,
+            });
         }
         let flags = flags | MAP_PRIVATE | MAP_NORESERVE;
         // SAFETY: the kernel chooses the range; nothing that is mapped already is touched.
@@ -65,7 +71,32 @@ impl Mapping {
         Ok(Mapping {
             start: start.cast(),
             length,
+            watch: None,
         })
+    }
+
+    /// Of a file's first bytes. A fault of the medium in them is told.
+    fn of_file(
+        file: &File,
+        length: usize,
+        protection: c_int,
+        doing: &'static str,
+    ) -> io::Result<Mapping> {
+        let mut mapping = Mapping::new(length, protection, 0, file.as_raw_fd())?;
+        mapping.watch(length, [file].into_iter(), doing)?;
+        Ok(mapping)
+    }
+
+    fn watch<'f>(
+        &mut self,
+        size: usize,
+        files: impl Iterator<Item = &'f File>,
+        doing: &'static str,
+    ) -> io::Result<()> {
+        let start = self.start as usize;
+        let bytes = start..start + self.length;
+        self.watch = Some(Watch::over(bytes, size, files, doing)?);
+        Ok(())
     }
 
     /// Puts a file's start, or zeros without a file, at a place of this range.
@@ -101,6 +132,8 @@ impl Mapping {
 
 impl Drop for Mapping {
     fn drop(&mut self) {
+        // First, as the kernel may map something else here then.
+        self.watch = None;
         if self.length > 0 {
             // SAFETY: the range is this mapping's own, and whatever borrowed it has ended.
             unsafe { munmap(self.start.cast(), self.length) };
@@ -114,8 +147,7 @@ pub struct View(Mapping);
 impl View {
     /// A file's first bytes.
     pub fn of_file(file: &File, length: usize) -> io::Result<View> {
-        let mapping = Mapping::new(length, PROT_READ, 0, file.as_raw_fd())?;
-        Ok(View(mapping))
+        Mapping::of_file(file, length, PROT_READ, "read").map(View)
     }
 
     /// Files side by side as one run of bytes, `size` for each: a multiple of the page size. A shorter file is followed by
@@ -132,6 +164,7 @@ impl View {
             mapping.place(number * size, present, Some(file))?;
             mapping.place(number * size + present, size - present, None)?;
         }
+        mapping.watch(size, files.iter().map(|(file, _)| file), "read")?;
         Ok(View(mapping))
     }
 }
@@ -151,8 +184,7 @@ pub struct Draft(Mapping);
 impl Draft {
     /// A file's first bytes; a page is copied when it is first written.
     pub fn of_file(file: &File, length: usize) -> io::Result<Draft> {
-        let mapping = Mapping::new(length, PROT_READ | PROT_WRITE, 0, file.as_raw_fd())?;
-        Ok(Draft(mapping))
+        Mapping::of_file(file, length, PROT_READ | PROT_WRITE, "read or written").map(Draft)
     }
 
     /// Zeros; a page takes memory when it is first written.
@@ -175,5 +207,107 @@ impl DerefMut for Draft {
     fn deref_mut(&mut self) -> &mut [u8] {
         // SAFETY: the whole range is writable, lives as long as self and is borrowed alone.
         unsafe { std::slice::from_raw_parts_mut(self.0.start, self.0.length) }
+    }
+}
+
+#[cfg(test)]
+mod tests {
+    use super::*;
+    use std::env;
+    use std::fs;
+    use std::hint::black_box;
+    use std::os::unix::process::ExitStatusExt;
+    use std::path::{Path, PathBuf};
+    use std::process::{Command, Output};
+
+    /// Says where a test's child has its files; others have none.
+    const FOLDER: &str = "SWISTOPAL_TEST_FOLDER";
+
+    /// Runs one of these tests again, in a process that is to end in it: `ends` is given a folder of its own. The parent
+    /// has the folder and how the child ended.
+    fn ending(test: &str, ends: impl FnOnce(&Path)) -> (PathBuf, Output) {
+        if let Some(folder) = env::var_os(FOLDER) {
+            ends(Path::new(&folder));
+            panic!("the process should have ended");
+        }
+        let folder = env::temp_dir().join(format!("swistopal-{test}-{}", std::process::id()));
+        fs::create_dir_all(&folder).unwrap();
+        let mut child = Command::new(env::current_exe().unwrap());
+        let test = format!("map::tests::{test}");
+        child.args(["--exact", &test, "--nocapture"]);
+        let ended = child.env(FOLDER, &folder).output().unwrap();
+        let real = folder.canonicalize().unwrap();
+        fs::remove_dir_all(folder).unwrap();
+        (real, ended)
+    }
+
+    fn file(path: &Path, pages: u64) -> File {
+        let mut options = File::options();
+        let options = options.read(true).write(true).create(true).truncate(true);
+        let file = options.open(path).unwrap();
+        file.set_len(pages * page_size()).unwrap();
+        file
+    }
+
+    #[track_caller]
+    fn told(ended: &Output, path: &Path, sentence: &str) {
+        let said = String::from_utf8_lossy(&ended.stderr);
+        assert_eq!(ended.status.code(), Some(1), "{said}");
+        assert_eq!(
+            said,
+            format!(
+                "swistopal: {}: {sentence}: the medium has a fault there, or the file was cut; copy the store to \
+                 a sound disk and work on the copy; a rebuild under way begins anew there with --restart\n",
+                path.display()
+            )
+        );
+    }
+
+    #[test]
+    fn a_byte_that_cannot_be_read() {
+        let (folder, ended) = ending("a_byte_that_cannot_be_read", |folder| {
+            let size = 4 * page_size();
+            let files = ["first", "second"].map(|name| (file(&folder.join(name), 4), size));
+            let view = View::of_files(&files, size).unwrap();
+            files[1].0.set_len(page_size()).unwrap();
+            let page = page_size() as usize;
+            assert_eq!(view[..5 * page], vec![0; 5 * page]);
+            black_box(view[6 * page + 7]);
+        });
+        let byte = format!("byte {} cannot be read", 2 * page_size() + 7);
+        told(&ended, &folder.join("second"), &byte);
+    }
+
+    #[test]
+    fn a_byte_that_cannot_be_written() {
+        let (folder, ended) = ending("a_byte_that_cannot_be_written", |folder| {
+            let file = file(&folder.join("work"), 4);
+            let mut draft = Draft::of_file(&file, 4 * page_size() as usize).unwrap();
+            file.set_len(0).unwrap();
+            draft[black_box(0)] = 1;
+        });
+        let sentence = "byte 0 cannot be read or written";
+        told(&ended, &folder.join("work"), sentence);
+    }
+
+    #[test]
+    fn a_fault_elsewhere_is_left_to_the_signal() {
+        let (_, ended) = ending("a_fault_elsewhere_is_left_to_the_signal", |folder| {
+            let (file, length) = (file(&folder.join("file"), 4), 4 * page_size() as usize);
+            let _near = View::of_file(&file, length).unwrap();
+            let unwatched = View(Mapping::new(length, PROT_READ, 0, file.as_raw_fd()).unwrap());
+            file.set_len(0).unwrap();
+            black_box(unwatched[0]);
+        });
+        assert_eq!(ended.status.signal(), Some(7));
+        assert_eq!(String::from_utf8_lossy(&ended.stderr), "");
+    }
+
+    #[test]
+    fn a_mapping_that_has_ended_is_watched_no_longer() {
+        let file = File::open(env::current_exe().unwrap()).unwrap();
+        for _ in 0..70_000 {
+            drop(View::of_file(&file, 1).unwrap());
+        }
     }
 }

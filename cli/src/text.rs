@@ -1,6 +1,8 @@
 //! Bytes and numbers as text that a terminal, a plan file or a JSON reader takes.
 
 use std::fmt::Write;
+use std::os::unix::ffi::OsStrExt;
+use std::path::Path;
 
 /// Bytes as one line of text: what is printable as it is, a backslash doubled, every other byte as `\xNN`. A worn disk
 /// must not be able to write control characters to a terminal.
@@ -20,6 +22,11 @@ pub fn shown(bytes: &[u8]) -> String {
         push_hex_escapes(&mut text, chunk.invalid());
     }
     text
+}
+
+/// A path as one line of text: a worn disk may have any bytes in its names.
+pub fn shown_path(path: impl AsRef<Path>) -> String {
+    shown(path.as_ref().as_os_str().as_bytes())
 }
 
 fn push_hex_escapes(text: &mut String, bytes: &[u8]) {
