@@ -13,9 +13,6 @@ use std::io::Write;
 use swistopal::{query, Answer, Entry, LogPosition, Message, Query};
 
 const DEFAULT_LIMIT: u64 = 32;
-/// The index records whole seconds after its first time, rounded down: a record is asked for up to so much earlier, and then
-/// judged by its own time.
-const ROUNDED_OFF: u64 = 999;
 
 struct Found<'a> {
     position: LogPosition,
@@ -65,8 +62,9 @@ pub fn run(args: &Args) -> Result<Outcome, Failure> {
             index_geometry: index.geometry,
             topic,
             key,
-            first_time: first_time.saturating_sub(ROUNDED_OFF),
-            last_time,
+            // All times: where a clock fell or the first time is 0, an item's time is not its record's.
+            first_time: 0,
+            last_time: time::LAST,
             wanted: 0,
         };
         search.faults.extend(index.doubt.clone());
