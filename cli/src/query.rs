@@ -2,7 +2,7 @@
 
 use crate::args::Args;
 use crate::failure::{fault, usage, Failure, Outcome};
-use crate::index;
+use crate::index::{self, Opened};
 use crate::log::Log;
 use crate::properties::Names;
 use crate::show::{self, With};
@@ -42,15 +42,18 @@ pub fn run(args: &Args) -> Result<Outcome, Failure> {
     let limit = args.number_within("--limit", 1, u64::MAX)?;
     let limit = limit.unwrap_or(DEFAULT_LIMIT);
     let log = Log::open(args)?;
-    let indexes = index::open_all(args)?;
-    if indexes.is_empty() {
+    let Opened { indexes, faults } = index::open_all(args)?;
+    if indexes.is_empty() && faults.is_empty() {
         return fault(format!(
             "{}: no index in it; `swistopal rebuild` makes one from the log",
             args.place().display()
         ));
     }
 
-    let mut search = Search::default();
+    let mut search = Search {
+        faults,
+        ..Search::default()
+    };
     // Newest first: the names are times.
     for index in indexes.iter().rev() {
         let missing = limit - search.found.len() as u64;

@@ -3,8 +3,10 @@
 mod common;
 
 use common::*;
+use std::fs;
 use std::path::Path;
 
+const PARCEL: [&str; 4] = ["--topic", "SORTER_DIVERT", "--key", "P000017"];
 const KEY: [&str; 4] = ["--topic", "T", "--key", "k"];
 
 /// A store whose records have the key `k` and these store times.
@@ -45,4 +47,54 @@ fn records_are_judged_by_their_own_times() {
     let from_zero = folder.join("zero");
     stored_at(&from_zero, &[0, 20_000]);
     assert_eq!(times_found(&from_zero, &["--from", "5000"]), [20_000]);
+}
+
+#[test]
+fn only_digits_name_an_index() {
+    let folder = Folder::new("names");
+    let store = built(&folder, "store");
+    let index = index_file(&store);
+    fs::write(store.join("index/notes.txt"), "parcel 17: see the log").unwrap();
+    fs::copy(&index, index.with_extension("bak")).unwrap();
+    fs::create_dir(store.join("index/20990101000000000")).unwrap();
+    let run = tool("query", &store, &PARCEL);
+    run.is(0, "2 records of");
+    assert_eq!(run.out.lines().count(), 3);
+    tool("check", &store, &[])
+        .is(0, "97 of 97 slots filled; as the log gives it")
+        .shows("nothing: the store is sound");
+    fs::remove_file(&index).unwrap();
+    tool("query", &store, &PARCEL).is(1, "no index in it");
+}
+
+#[test]
+fn an_index_that_cannot_be_opened_keeps_no_other_from_being_asked() {
+    let folder = Folder::new("opened");
+    let store = built(&folder, "store");
+    let cut = store.join("index/20250101000000000");
+    fs::write(&cut, [0; 83]).unwrap();
+    let next = format!(
+        "20250101000000000: 83 bytes are no index; one has 40 + 4 K + 20 N, K from 1 to 5,000,000 and N from 2 to \
+         20,000,000; it is not asked; `swistopal rebuild {} --force` makes one index of the whole log",
+        store.display()
+    );
+    tool("query", &store, &PARCEL)
+        .is(1, "2 records of")
+        .is(1, &next);
+    let json = tool("query", &store, &[&PARCEL[..], &["--json"]].concat()).json();
+    assert_eq!(json.get("records").list().len(), 2);
+    assert_eq!(json.get("faults").list().len(), 1);
+    // Slots that fit one of them only, or none.
+    fs::write(&cut, [0; 40 + 84]).unwrap();
+    let slots = |number| {
+        tool(
+            "query",
+            &store,
+            &[&PARCEL[..], &["--slots", number]].concat(),
+        )
+    };
+    slots("97")
+        .is(1, "2 records of")
+        .is(1, "124 bytes, not 40 + 4 K + 20 N; it is not asked");
+    slots("96").is(2, "--slots 96");
 }
