@@ -3,7 +3,7 @@
 use crate::args::Args;
 use crate::failure::{fault, usage, Failure, Outcome};
 use crate::index::{self, Opened};
-use crate::log::Log;
+use crate::log::{self, Log};
 use crate::properties::Names;
 use crate::show::{self, With};
 use crate::text::{array, counted, shown, string, Object};
@@ -44,6 +44,7 @@ pub fn run(args: &Args) -> Result<Outcome, Failure> {
     let log = Log::open(args)?;
     let Opened { indexes, faults } = index::open_all(args)?;
     if indexes.is_empty() && faults.is_empty() {
+        log::tell(&log.faults);
         return fault(format!(
             "{}: no index in it; `swistopal rebuild` makes one from the log",
             args.place().display()
@@ -51,7 +52,7 @@ pub fn run(args: &Args) -> Result<Outcome, Failure> {
     }
 
     let mut search = Search {
-        faults,
+        faults: [log.faults.clone(), faults].concat(),
         ..Search::default()
     };
     // Newest first: the names are times.
@@ -106,6 +107,7 @@ pub fn run(args: &Args) -> Result<Outcome, Failure> {
     }
     out.flush()?;
     search.tell(topic, key);
+    log::tell(&search.faults);
     if search.faults.is_empty() {
         Ok(Outcome::Sound)
     } else {
@@ -221,9 +223,6 @@ impl<'a> Search<'a> {
             note(&format!(
                 "{others} left out: another key with the same hash"
             ));
-        }
-        for fault in &self.faults {
-            note(fault);
         }
     }
 }

@@ -34,6 +34,7 @@ pub fn run(args: &Args) -> Result<Outcome, Failure> {
     }
     let files = queues::open(args.place(), &queue)?;
     let Some(last) = files.last() else {
+        log::tell(&log.faults);
         return fault(format!(
             "{}: no queue {} in it; `swistopal check` shows those that are there, `swistopal rebuild` makes them from the log",
             args.place().display(),
@@ -58,7 +59,7 @@ pub fn run(args: &Args) -> Result<Outcome, Failure> {
     let (json, body) = (args.flag("--json"), args.flag("--body"));
     let with = With { topic: false, body };
     let mut out = out();
-    let mut faults = Vec::new();
+    let mut faults = log.faults.clone();
     let mut shown_records = 0u64;
     if json {
         let head = Object::new().bytes("topic", topic).number("queue", id);

@@ -117,7 +117,10 @@ fn files_of_wrong_lengths() {
     );
     tool("check", &store, &[]).is(1, "it is sound up to 83658; only zeros follow");
     cut(&segment(&store, 131_072), 0);
-    tool("query", &store, &QUERY).is(0, "2 records");
+    tool("query", &store, &QUERY).is(1, "2 records").is(
+        1,
+        "00000000000000131072: 0 bytes of 65,536; it is cut short",
+    );
     fs::remove_file(segment(&store, 131_072)).unwrap();
     tool("check", &store, &[]).is(0, "2 segments of 65,536 bytes");
     cut(&segment(&store, 65_536), 83_658 - 65_536);

@@ -7,6 +7,7 @@ use std::fs;
 use std::path::Path;
 
 const PARCEL: [&str; 4] = ["--topic", "SORTER_DIVERT", "--key", "P000017"];
+const TRIM: [&str; 4] = ["--topic", "SORTER_TRIM", "--queue", "0"];
 const KEY: [&str; 4] = ["--topic", "T", "--key", "k"];
 
 /// A store whose records have the key `k` and these store times.
@@ -97,4 +98,29 @@ fn an_index_that_cannot_be_opened_keeps_no_other_from_being_asked() {
         .is(1, "2 records of")
         .is(1, "124 bytes, not 40 + 4 K + 20 N; it is not asked");
     slots("96").is(2, "--slots 96");
+}
+
+#[test]
+fn what_the_log_lacks_is_told() {
+    let folder = Folder::new("lacks");
+    let store = built(&folder, "store");
+    fs::remove_file(segment(&store, 65_536)).unwrap();
+    let lacks = "the segment at 65536 is missing before it; the log is read up to there";
+    for (command, found) in [("query", &PARCEL), ("queue", &TRIM)] {
+        tool(command, &store, found).is(1, lacks);
+        let json = tool(command, &store, &[&found[..], &["--json"]].concat()).json();
+        let faults = json.get("faults").list().iter();
+        let mut faults =
+            faults.filter(|fault| matches!(fault, Json::Text(text) if text.ends_with(lacks)));
+        assert!(faults.next().is_some());
+    }
+    // Also where there is nothing to ask.
+    fs::remove_dir_all(store.join("consumequeue")).unwrap();
+    tool("queue", &store, &TRIM)
+        .is(1, lacks)
+        .is(1, "no queue SORTER_TRIM/0");
+    fs::remove_dir_all(store.join("index")).unwrap();
+    tool("query", &store, &PARCEL)
+        .is(1, lacks)
+        .is(1, "no index in it");
 }
