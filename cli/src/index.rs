@@ -183,6 +183,11 @@ impl Bytes<'_> {
         self.number::<4>(36).unwrap_or(0).max(1)
     }
 
+    /// The position of the last record that has an item.
+    pub fn last_position(&self) -> Option<u64> {
+        self.number::<8>(24).filter(|_| self.used() > 1)
+    }
+
     pub fn filled(&self) -> u64 {
         self.number::<4>(32).unwrap_or(0)
     }
@@ -209,7 +214,7 @@ impl Bytes<'_> {
         }
         let slot = self.slot_of_item(slots, last);
         self.item_position(slots, 1) == self.number::<8>(16)
-            && self.item_position(slots, last) == self.number::<8>(24)
+            && self.item_position(slots, last) == self.last_position()
             && slot.and_then(|slot| self.slot(slot)) == Some(last)
     }
 }

@@ -2,14 +2,15 @@
 
 use crate::args::Args;
 use crate::failure::{fault, usage, Failure, Outcome};
-use crate::index::{self, Opened};
+use crate::index::{self, Bytes, Index, Opened};
 use crate::log::{self, Log};
-use crate::properties::Names;
+use crate::properties::{has_items, Names};
 use crate::show::{self, With};
 use crate::text::{array, counted, shown, string, Object};
 use crate::time;
 use crate::{note, out};
 use std::io::Write;
+use std::path::Path;
 use swistopal::{query, Answer, Entry, LogPosition, Message, Query};
 
 const DEFAULT_LIMIT: u64 = 32;
@@ -74,6 +75,8 @@ pub fn run(args: &Args) -> Result<Outcome, Failure> {
         search.faults.extend(index.doubt.clone());
         search.ask(&log, &ask, &index.name, (first_time, last_time), missing)?;
     }
+    let not_reached = not_reached(&log, &indexes, args.place())?;
+    search.faults.extend(not_reached);
 
     let with_body = args.flag("--body");
     let mut out = out();
@@ -113,6 +116,48 @@ pub fn run(args: &Args) -> Result<Outcome, Failure> {
     } else {
         Ok(Outcome::Fault)
     }
+}
+
+/// What of the log the index does not reach. The log is read on from the last record that has an item up to the next one
+/// that should have some, or to its end.
+fn not_reached(log: &Log, indexes: &[Index], store: &Path) -> Result<Option<String>, Failure> {
+    let last_of = |index: &Index| Bytes(&index.bytes).last_position().map(LogPosition);
+    let Some(newest) = indexes.iter().max_by_key(|index| last_of(index)) else {
+        return Ok(None);
+    };
+    let last = last_of(newest);
+    let from = last.unwrap_or_default().max(log.first());
+    if from >= log.end() {
+        return Ok(None);
+    }
+    let mut next = None;
+    let end = log.walk(from, |position, entry| {
+        if let Entry::Record { message, .. } = entry {
+            if Some(position) > last && has_items(message) {
+                next = Some(position);
+            }
+        }
+        Ok(next.is_none())
+    })?;
+    let reach = match last {
+        Some(last) => format!("it ends with the record at position {}", last.0),
+        None => String::from("it is empty"),
+    };
+    let (name, store) = (&newest.name, store.display());
+    Ok(match next {
+        Some(next) => Some(format!(
+            "index {name}: {reach}, but the log goes on with keys: no record from position {} to the end of its files at {} \
+             is found; `swistopal rebuild {store} --force` makes the index of the whole log",
+            next.0,
+            log.end().0
+        )),
+        None if end.sound() => None,
+        None => Some(format!(
+            "index {name}: {reach}, and from there on the log {}; records behind are not found; `swistopal check {store}` \
+             says what to do",
+            end.sentence()
+        )),
+    })
 }
 
 impl<'a> Search<'a> {

@@ -86,7 +86,9 @@ fn damage_in_the_log() {
         rebuild
             .is(1, "the log stops at 6696 with 10")
             .shows("steps     35, up to position 6696");
-        tool("query", &store, &QUERY).is(0, "0 records");
+        tool("query", &store, &QUERY)
+            .is(1, "0 records")
+            .is(1, "from there on the log stops at 6696 with 10");
         assert_eq!(
             fs::read(segment(&store, 0)).unwrap(),
             before[Path::new("commitlog/00000000000000000000")]

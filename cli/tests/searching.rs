@@ -124,3 +124,100 @@ fn what_the_log_lacks_is_told() {
         .is(1, lacks)
         .is(1, "no index in it");
 }
+
+/// Writes a log of records with these system flags and properties; their positions.
+fn written(store: &Path, records: &[(u32, &[u8])]) -> Vec<u64> {
+    let (mut positions, mut entry) = (Vec::new(), 0);
+    let count = records.len() as u64;
+    made(store, 4096, 4096, count, |position, number| {
+        let (flag, properties) = records[number as usize];
+        let mut bytes = record(position, b"T", (0, entry), 1000, properties);
+        bytes[36..40].copy_from_slice(&flag.to_be_bytes());
+        entry += u64::from(matches!(flag, 0 | 8));
+        positions.push(position);
+        bytes
+    });
+    positions
+}
+
+/// The same, of which only the first `indexed` are in the index.
+fn grown(store: &Path, indexed: usize, records: &[(u32, &[u8])]) -> Vec<u64> {
+    written(store, &records[..indexed]);
+    tool("rebuild", store, &SMALL).is(0, "stop      0");
+    written(store, records)
+}
+
+const WITH_KEY: (u32, &[u8]) = (0, b"KEYS\x01k");
+const WITHOUT_KEY: (u32, &[u8]) = (0, b"TAGS\x01t");
+const ROLLED_BACK: (u32, &[u8]) = (12, b"KEYS\x01k");
+const PREPARED: (u32, &[u8]) = (4, b"KEYS\x01k");
+
+#[test]
+fn an_index_that_lags_behind_the_log_is_told() {
+    let folder = Folder::new("lags");
+    // What makes no items is not missing.
+    let even = folder.join("even");
+    grown(&even, 1, &[WITH_KEY, WITHOUT_KEY, ROLLED_BACK]);
+    tool("query", &even, &KEY).is(0, "1 record of");
+
+    for (name, last) in [("keys", WITH_KEY), ("prepared", PREPARED)] {
+        let store = folder.join(name);
+        let records = [WITH_KEY, WITHOUT_KEY, ROLLED_BACK, last, WITH_KEY];
+        let positions = grown(&store, 1, &records);
+        let said = format!(
+            "it ends with the record at position 4096, but the log goes on with keys: no record from position {} to the end \
+             of its files at 8192 is found; `swistopal rebuild {} --force` makes the index of the whole log",
+            positions[3],
+            store.display()
+        );
+        tool("query", &store, &KEY)
+            .is(1, "1 record of")
+            .is(1, &said);
+        let json = tool("query", &store, &[&KEY[..], &["--json"]].concat());
+        assert_eq!(json.is(1, "").json().get("faults").list().len(), 1);
+        // Up to an end before those records it does not lag.
+        let end = positions[3].to_string();
+        tool("query", &store, &[&KEY[..], &["--end", &end]].concat()).is(0, "1 record of");
+        tool("query", &store, &[&KEY[..], &["--end", "4096"]].concat()).is(1, "answers 8");
+    }
+
+    // Nothing in the index: the log is read from its start.
+    let empty = folder.join("empty");
+    grown(&empty, 1, &[WITHOUT_KEY, WITH_KEY]);
+    tool("query", &empty, &KEY)
+        .is(1, "it is empty, but the log goes on with keys")
+        .is(1, "0 records");
+    // Of several files the one that reaches furthest counts.
+    let several = folder.join("several");
+    grown(&several, 2, &[WITH_KEY, WITH_KEY]);
+    fs::write(several.join("index/20990101000000000"), [0; 40 + 84]).unwrap();
+    tool("query", &several, &KEY).is(0, "2 records of");
+    // Those of a log whose older segments were removed.
+    fs::remove_file(segment(&several, 4096)).unwrap();
+    made(&several, 8192, 4096, 1, |position, _| {
+        record(position, b"T", (0, 2), 1000, b"KEYS\x01k")
+    });
+    tool("query", &several, &["--topic", "T", "--key", "other"]).is(
+        1,
+        "no record from position 8192 to the end of its files at 12288",
+    );
+}
+
+#[test]
+fn damage_behind_the_index_is_told() {
+    let folder = Folder::new("behind");
+    let store = folder.join("store");
+    let positions = grown(&store, 1, &[WITH_KEY, WITHOUT_KEY, WITH_KEY]);
+    edit(&segment(&store, 4096), |bytes| {
+        bytes[positions[1] as usize - 4096 + 4] ^= 1
+    });
+    let said = format!(
+        "it ends with the record at position 4096, and from there on the log stops at {} with 10: the record is damaged; \
+         records behind are not found; `swistopal check {}` says what to do",
+        positions[1],
+        store.display()
+    );
+    tool("query", &store, &KEY)
+        .is(1, "1 record of")
+        .is(1, &said);
+}
