@@ -33,11 +33,12 @@ pub fn run(args: &Args) -> Result<Outcome, Failure> {
         return usage(format!("{}: a folder is needed", args.place().display()));
     }
     let files = queues::open(args.place(), &queue)?;
+    let store = args.place().display();
     let Some(last) = files.last() else {
         log::tell(&log.faults);
         return fault(format!(
-            "{}: no queue {} in it; `swistopal check` shows those that are there, `swistopal rebuild` makes them from the log",
-            args.place().display(),
+            "{store}: no queue {} in it; `swistopal list --long {store}` shows topic and queue of each record, \
+             `swistopal rebuild` makes the queues from them",
             queue.shown()
         ));
     };

@@ -221,3 +221,12 @@ fn damage_behind_the_index_is_told() {
         .is(1, "1 record of")
         .is(1, &said);
 }
+
+#[test]
+fn a_queue_that_is_not_there_brings_a_command_that_shows_those_of_the_log() {
+    let folder = Folder::new("absent");
+    let store = built(&folder, "store");
+    let said = format!("`swistopal list --long {}` shows", store.display());
+    tool("queue", &store, &["--topic", "SORTER_TRIM", "--queue", "1"]).is(1, &said);
+    tool("list", &store, &["--long"]).shows("     0     19  SORTER_TRIM / ");
+}
