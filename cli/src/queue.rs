@@ -145,7 +145,7 @@ fn read(
         Ok(found) => Ok(found.to_vec()),
         Err(refusal) => fault(format!(
             "{}: answer {}: {refusal}",
-            file.path.display(),
+            file.place.display(),
             refusal.number()
         )),
     }

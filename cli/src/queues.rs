@@ -45,7 +45,8 @@ impl Queue {
 
 /// One file of a queue.
 pub struct QueueFile {
-    pub path: PathBuf,
+    /// Its path as it is shown.
+    pub place: PathBuf,
     /// The number of its first entry.
     pub first: u64,
     pub bytes: View,
@@ -62,29 +63,35 @@ impl QueueFile {
     }
 }
 
+/// A path for sentences: a topic below it may be any bytes.
+fn shown_path(path: &Path) -> PathBuf {
+    PathBuf::from(shown(path.as_os_str().as_bytes()))
+}
+
 fn size(bytes: &[u8], entry: u64) -> u32 {
     let place = (entry * QueueEntries::ENTRY_BYTES) as usize + 8;
     let size = bytes[place..place + 4].try_into();
     u32::from_be_bytes(size.expect("four bytes"))
 }
 
-pub fn open_file(path: PathBuf, first: u64) -> Result<QueueFile, Failure> {
-    let file = File::open(&path).at("open", &path)?;
-    let length = file.metadata().at("read", &path)?.len();
+fn open_file(path: &Path, first: u64) -> Result<QueueFile, Failure> {
+    let place = shown_path(path);
+    let file = File::open(path).at("open", &place)?;
+    let length = file.metadata().at("read", &place)?.len();
     let entries = length / QueueEntries::ENTRY_BYTES;
     if !length.is_multiple_of(QueueEntries::ENTRY_BYTES) || !(1..=MOST_ENTRIES).contains(&entries) {
         return fault(format!(
             "{}: {} bytes are no queue file; one has 20 for each of 1 to {} entries",
-            path.display(),
+            place.display(),
             grouped(length),
             grouped(MOST_ENTRIES)
         ));
     }
-    let bytes = View::of_file(&file, length as usize).at("map", &path)?;
+    let bytes = View::of_file(&file, length as usize).at("map", &place)?;
     let in_use = (0..entries).take_while(|number| size(&bytes, *number) != 0);
     let count = in_use.count() as u64;
     Ok(QueueFile {
-        path,
+        place,
         first,
         bytes,
         entries: QueueEntries(entries),
@@ -97,17 +104,16 @@ pub fn open(store: &Path, queue: &Queue) -> Result<Vec<QueueFile>, Failure> {
     let folder = queue.folder(&store.join("consumequeue"))?;
     let mut found = Vec::new();
     if folder.is_dir() {
-        for entry in fs::read_dir(&folder).at("read", &folder)? {
-            let entry = entry.at("read", &folder)?;
+        let place = shown_path(&folder);
+        for entry in fs::read_dir(&folder).at("read", &place)? {
+            let entry = entry.at("read", &place)?;
             if let Some(first) = entry.file_name().to_str().and_then(numbered_name) {
                 found.push((first / QueueEntries::ENTRY_BYTES, entry.path()));
             }
         }
     }
     found.sort();
-    let opened = found
-        .into_iter()
-        .map(|(first, path)| open_file(path, first));
+    let opened = found.iter().map(|(first, path)| open_file(path, *first));
     opened.collect()
 }
 
@@ -131,8 +137,9 @@ pub fn on_disk(store: &Path) -> Result<Vec<Queue>, Failure> {
 fn folders(folder: &Path) -> Result<Vec<PathBuf>, Failure> {
     let mut found = Vec::new();
     if folder.is_dir() {
-        for entry in fs::read_dir(folder).at("read", folder)? {
-            let path = entry.at("read", folder)?.path();
+        let place = shown_path(folder);
+        for entry in fs::read_dir(folder).at("read", &place)? {
+            let path = entry.at("read", &place)?.path();
             if path.is_dir() {
                 found.push(path);
             }

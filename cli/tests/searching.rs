@@ -230,3 +230,25 @@ fn a_queue_that_is_not_there_brings_a_command_that_shows_those_of_the_log() {
     tool("queue", &store, &["--topic", "SORTER_TRIM", "--queue", "1"]).is(1, &said);
     tool("list", &store, &["--long"]).shows("     0     19  SORTER_TRIM / ");
 }
+
+#[test]
+fn topics_are_shown_in_paths_too() {
+    let folder = Folder::new("paths");
+    let store = folder.join("store");
+    let topic = "\x1b[2J\nT";
+    made(&store, 0, 4096, 1, |position, _| {
+        record(position, topic.as_bytes(), (0, 0), 1000, b"")
+    });
+    tool("rebuild", &store, &SMALL).is(0, "stop      0");
+    let file = queue_file(&store, topic, 0);
+    let says = |part: &str| {
+        let run = tool("queue", &store, &["--topic", topic, "--queue", "0"]);
+        run.is(1, &format!("\\x1b[2J\\x0aT/0/00000000000000000000: {part}"));
+        assert!(!run.err.contains('\x1b'), "{:?}", run.err);
+    };
+    fs::write(&file, [0; 21]).unwrap();
+    says("21 bytes are no queue file");
+    fs::remove_file(&file).unwrap();
+    std::os::unix::fs::symlink("nowhere", &file).unwrap();
+    says("No such file");
+}
