@@ -34,7 +34,7 @@ pub fn run(args: &Args) -> Result<Outcome, Failure> {
     }
     let files = queues::open(args.place(), &queue)?;
     let store = args.place().display();
-    let Some(last) = files.last() else {
+    let Some(count) = queues::count(&files) else {
         log::tell(&log.faults);
         return fault(format!(
             "{store}: no queue {} in it; `swistopal list --long {store}` shows topic and queue of each record, \
@@ -42,8 +42,9 @@ pub fn run(args: &Args) -> Result<Outcome, Failure> {
             queue.shown()
         ));
     };
-    let count = last.first + last.count;
-    if start > count {
+    let file_faults = queues::faults(&files);
+    let whole = file_faults.is_empty();
+    if start > count && whole {
         return usage(format!(
             "--start {start}: queue {} has {}",
             queue.shown(),
@@ -61,6 +62,9 @@ pub fn run(args: &Args) -> Result<Outcome, Failure> {
     let with = With { topic: false, body };
     let mut out = out();
     let mut faults = log.faults.clone();
+    faults.extend(file_faults.into_iter().map(|fault| {
+        format!("{fault}; `swistopal rebuild {store} --force` makes the queues of the whole log")
+    }));
     let mut shown_records = 0u64;
     if json {
         let head = Object::new().bytes("topic", topic).number("queue", id);
@@ -103,11 +107,12 @@ pub fn run(args: &Args) -> Result<Outcome, Failure> {
     }
     out.flush()?;
     let records = counted(shown_records, "record", "records");
-    let entries = counted(count, "entry", "entries");
-    note(&format!(
-        "{records} of queue {}, which has {entries}",
-        queue.shown()
-    ));
+    let entries = if whole {
+        format!(", which has {}", counted(count, "entry", "entries"))
+    } else {
+        String::new()
+    };
+    note(&format!("{records} of queue {}{entries}", queue.shown()));
     log::tell(&faults);
     if faults.is_empty() {
         Ok(Outcome::Sound)

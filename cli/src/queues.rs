@@ -4,6 +4,7 @@ use crate::failure::{fault, usage, At, Failure};
 use crate::log::numbered_name;
 use crate::map::View;
 use crate::text::{grouped, shown};
+use std::cmp::Ordering;
 use std::ffi::OsStr;
 use std::fs::{self, File};
 use std::os::unix::ffi::OsStrExt;
@@ -61,6 +62,76 @@ impl QueueFile {
         let sizes = (0..self.count).map(|number| size(&self.bytes, number));
         sizes.take_while(|size| *size == NO_RECORD).count() as u64
     }
+
+    /// The number behind its last entry.
+    fn end(&self) -> u64 {
+        self.first + self.entries.0
+    }
+
+    /// The first entry that is not empty, among its entries from one on.
+    fn not_empty_from(&self, entry: u64) -> Option<u64> {
+        let from = entry * QueueEntries::ENTRY_BYTES;
+        let at = not_zero(&self.bytes[from as usize..])? as u64;
+        Some(self.first + (from + at) / QueueEntries::ENTRY_BYTES)
+    }
+
+    /// What stands behind its first entry without a size, here or in the next file.
+    fn hole(&self, next: Option<&QueueFile>) -> Option<String> {
+        let next = next.filter(|_| self.count < self.entries.0);
+        let again = self.not_empty_from(self.count);
+        let again = again.or_else(|| next?.not_empty_from(0))?;
+        let (place, empty) = (self.place.display(), self.first + self.count);
+        let last = self.end() - 1;
+        Some(format!(
+            "{place}: the size of entry {empty} is 0, but bytes that are not zero stand from entry {again} on; \
+             entries {empty} to {last} are not shown"
+        ))
+    }
+
+    /// How the next file does not start where this one ends.
+    fn seam(&self, next: &QueueFile) -> Option<String> {
+        let (place, first, end) = (next.place.display(), next.first, self.end());
+        match first.cmp(&end) {
+            Ordering::Equal => None,
+            Ordering::Greater => Some(format!(
+                "{place}: it starts with entry {first}, but the file before it ends with entry {}; entries {end} to {} are not shown",
+                end - 1,
+                first - 1
+            )),
+            Ordering::Less => Some(format!(
+                "{place}: it starts with entry {first}, but the file before it goes on to entry {}",
+                end - 1
+            )),
+        }
+    }
+}
+
+/// How many entries a queue has by its files; those of files that were removed count.
+pub fn count(files: &[QueueFile]) -> Option<u64> {
+    let in_use = files.iter().rev().find(|file| file.count > 0);
+    let last = in_use.or(files.first())?;
+    Some(last.first + last.count)
+}
+
+/// What is wrong with a queue's files: holes, files that are missing, files that overlap.
+pub fn faults(files: &[QueueFile]) -> Vec<String> {
+    let mut faults = Vec::new();
+    for (number, file) in files.iter().enumerate() {
+        let next = files.get(number + 1);
+        faults.extend(file.hole(next));
+        faults.extend(next.and_then(|next| file.seam(next)));
+    }
+    faults
+}
+
+/// Where the first byte stands that is not zero. Blocks are compared first: most of a queue file may be zeros.
+fn not_zero(bytes: &[u8]) -> Option<usize> {
+    const ZEROS: [u8; 4096] = [0; 4096];
+    let mut blocks = bytes.chunks(ZEROS.len());
+    let block = blocks.position(|block| *block != ZEROS[..block.len()])?;
+    let from = block * ZEROS.len();
+    let at = bytes[from..].iter().position(|byte| *byte != 0)?;
+    Some(from + at)
 }
 
 /// A path for sentences: a topic below it may be any bytes.

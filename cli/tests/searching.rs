@@ -4,7 +4,7 @@ mod common;
 
 use common::*;
 use std::fs;
-use std::path::Path;
+use std::path::{Path, PathBuf};
 
 const PARCEL: [&str; 4] = ["--topic", "SORTER_DIVERT", "--key", "P000017"];
 const TRIM: [&str; 4] = ["--topic", "SORTER_TRIM", "--queue", "0"];
@@ -223,6 +223,96 @@ fn damage_behind_the_index_is_told() {
 }
 
 #[test]
+fn a_hole_in_a_queue_is_told() {
+    let folder = Folder::new("hole");
+    let store = built(&folder, "store");
+    let file = queue_file(&store, "SORTER_TRIM", 0);
+    let sound = fs::read(&file).unwrap();
+    let next = format!("`swistopal rebuild {} --force`", store.display());
+    let told = |empty: u32, again: u32| {
+        format!(
+            "{}: the size of entry {empty} is 0, but bytes that are not zero stand from entry {again} on; entries {empty} to \
+             299 are not shown; {next}",
+            file.display()
+        )
+    };
+    let zeroed = |from: usize, to: usize| {
+        let mut bytes = sound.clone();
+        bytes[from..to].fill(0);
+        fs::write(&file, bytes).unwrap();
+    };
+    zeroed(5 * 20, 6 * 20);
+    let run = tool("queue", &store, &TRIM);
+    run.is(1, "5 records of queue SORTER_TRIM/0")
+        .is(1, &told(5, 6));
+    assert!(!run.err.contains("which has"), "{}", run.err);
+    let json = tool("queue", &store, &[&TRIM[..], &["--json"]].concat());
+    assert_eq!(json.is(1, "").json().get("faults").list().len(), 1);
+    tool("queue", &store, &[&TRIM[..], &["--start", "7"]].concat()).is(1, &told(5, 6));
+    tool("queue", &store, &[&TRIM[..], &["--limit", "2"]].concat()).is(1, &told(5, 6));
+    // Only the size is lost; then all but the last bytes of the last place.
+    zeroed(19 * 20 + 8, 19 * 20 + 12);
+    tool("queue", &store, &TRIM).is(1, &told(19, 19));
+    let mut bytes = sound.clone();
+    *bytes.last_mut().unwrap() = 1;
+    fs::write(&file, bytes).unwrap();
+    tool("queue", &store, &TRIM)
+        .is(1, &told(20, 299))
+        .is(1, "20 records");
+}
+
+#[test]
+fn files_of_a_queue_that_do_not_follow_each_other_are_told() {
+    let folder = Folder::new("files");
+    let mut made = 0;
+    // The queue's 20 entries in files of 8.
+    let mut divided = || -> (PathBuf, [PathBuf; 3]) {
+        made += 1;
+        let store = built(&folder, &format!("store-{made}"));
+        let first = queue_file(&store, "SORTER_TRIM", 0);
+        let entries = fs::read(&first).unwrap();
+        let files = [0, 160, 320].map(|place| {
+            let file = first.with_file_name(format!("{place:020}"));
+            fs::write(&file, &entries[place..place + 160]).unwrap();
+            file
+        });
+        (store, files)
+    };
+    let (store, files) = divided();
+    fs::write(files[0].with_file_name(format!("{:020}", 480)), [0; 160]).unwrap();
+    tool("queue", &store, &TRIM).is(0, "20 records of queue SORTER_TRIM/0, which has 20 entries");
+    fs::remove_file(&files[1]).unwrap();
+    tool("queue", &store, &TRIM).is(1, "12 records").is(
+        1,
+        &format!(
+            "{}: it starts with entry 16, but the file before it ends with entry 7; entries 8 to 15 are not shown; \
+             `swistopal rebuild {} --force`",
+            files[2].display(),
+            store.display()
+        ),
+    );
+    let (store, files) = divided();
+    edit(&files[0], |bytes| bytes[7 * 20..].fill(0));
+    tool("queue", &store, &TRIM).is(1, "19 records").is(
+        1,
+        &format!(
+            "{}: the size of entry 7 is 0, but bytes that are not zero stand from entry 8 on; entries 7 to 7 are not shown",
+            files[0].display()
+        ),
+    );
+    let (store, files) = divided();
+    let overlapping = files[0].with_file_name(format!("{:020}", 140));
+    fs::rename(&files[1], &overlapping).unwrap();
+    tool("queue", &store, &TRIM).is(
+        1,
+        &format!(
+            "{}: it starts with entry 7, but the file before it goes on to entry 7",
+            overlapping.display()
+        ),
+    );
+}
+
+#[test]
 fn a_queue_that_is_not_there_brings_a_command_that_shows_those_of_the_log() {
     let folder = Folder::new("absent");
     let store = built(&folder, "store");
@@ -246,6 +336,8 @@ fn topics_are_shown_in_paths_too() {
         run.is(1, &format!("\\x1b[2J\\x0aT/0/00000000000000000000: {part}"));
         assert!(!run.err.contains('\x1b'), "{:?}", run.err);
     };
+    edit(&file, |bytes| *bytes.last_mut().unwrap() = 1);
+    says("the size of entry 1 is 0");
     fs::write(&file, [0; 21]).unwrap();
     says("21 bytes are no queue file");
     fs::remove_file(&file).unwrap();
