@@ -5,6 +5,7 @@ use crate::failure::{fault, usage, At, Failure};
 use crate::map::View;
 use crate::text::grouped;
 use std::fs::{self, File};
+use std::os::unix::ffi::OsStrExt;
 use std::path::{Path, PathBuf};
 use swistopal::IndexGeometry;
 
@@ -25,7 +26,14 @@ pub struct Index {
     pub doubt: Option<String>,
 }
 
-/// Paths of the index files by name, which is by time.
+/// The index files that could be opened, and why others could not.
+#[derive(Default)]
+pub struct Opened {
+    pub indexes: Vec<Index>,
+    pub faults: Vec<String>,
+}
+
+/// Paths of the index files by name, which is by time: RocketMQ's names are digits alone. A backup or a note is no index.
 pub fn paths(store: &Path) -> Result<Vec<PathBuf>, Failure> {
     let folder = store.join("index");
     if !folder.is_dir() {
@@ -34,7 +42,8 @@ pub fn paths(store: &Path) -> Result<Vec<PathBuf>, Failure> {
     let mut paths = Vec::new();
     for entry in fs::read_dir(&folder).at("read", &folder)? {
         let path = entry.at("read", &folder)?.path();
-        if path.is_file() {
+        let name = path.file_name().unwrap_or_default().as_bytes();
+        if name.iter().all(u8::is_ascii_digit) && path.is_file() {
             paths.push(path);
         }
     }
@@ -42,13 +51,33 @@ pub fn paths(store: &Path) -> Result<Vec<PathBuf>, Failure> {
     Ok(paths)
 }
 
-pub fn open_all(args: &Args) -> Result<Vec<Index>, Failure> {
-    if args.place().is_file() {
-        return usage(format!("{}: a folder is needed", args.place().display()));
+/// Opens all that can be; a `--slots` that fits none of them is refused.
+pub fn open_all(args: &Args) -> Result<Opened, Failure> {
+    let store = args.place();
+    if store.is_file() {
+        return usage(format!("{}: a folder is needed", store.display()));
     }
     let slots = args.number_within("--slots", 1, MOST_SLOTS)?;
-    let paths = paths(args.place())?;
-    paths.iter().map(|path| open(path, slots)).collect()
+    let mut opened = Opened::default();
+    let mut refusal = None;
+    for path in paths(store)? {
+        match open(&path, slots) {
+            Ok(index) => opened.indexes.push(index),
+            Err(Failure::Fault(sentence)) => opened.faults.push(format!(
+                "{sentence}; it is not asked; `swistopal rebuild {} --force` makes one index of the whole log",
+                store.display()
+            )),
+            Err(Failure::Usage(sentence)) => {
+                opened.faults.push(format!("{sentence}; it is not asked"));
+                refusal = Some(sentence);
+            }
+            Err(Failure::Unread) => return Err(Failure::Unread),
+        }
+    }
+    match refusal {
+        Some(sentence) if opened.indexes.is_empty() => usage(sentence),
+        _ => Ok(opened),
+    }
 }
 
 pub fn open(path: &Path, slots: Option<u64>) -> Result<Index, Failure> {
@@ -154,6 +183,11 @@ impl Bytes<'_> {
         self.number::<4>(36).unwrap_or(0).max(1)
     }
 
+    /// The position of the last record that has an item.
+    pub fn last_position(&self) -> Option<u64> {
+        self.number::<8>(24).filter(|_| self.used() > 1)
+    }
+
     pub fn filled(&self) -> u64 {
         self.number::<4>(32).unwrap_or(0)
     }
@@ -180,7 +214,7 @@ impl Bytes<'_> {
         }
         let slot = self.slot_of_item(slots, last);
         self.item_position(slots, 1) == self.number::<8>(16)
-            && self.item_position(slots, last) == self.number::<8>(24)
+            && self.item_position(slots, last) == self.last_position()
             && slot.and_then(|slot| self.slot(slot)) == Some(last)
     }
 }

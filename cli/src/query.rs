@@ -2,20 +2,18 @@
 
 use crate::args::Args;
 use crate::failure::{fault, usage, Failure, Outcome};
-use crate::index;
-use crate::log::Log;
-use crate::properties::Names;
+use crate::index::{self, Bytes, Index, Opened};
+use crate::log::{self, Log};
+use crate::properties::{has_items, Names};
 use crate::show::{self, With};
 use crate::text::{array, counted, shown, string, Object};
 use crate::time;
 use crate::{note, out};
 use std::io::Write;
+use std::path::Path;
 use swistopal::{query, Answer, Entry, LogPosition, Message, Query};
 
 const DEFAULT_LIMIT: u64 = 32;
-/// The index records whole seconds after its first time, rounded down: a record is asked for up to so much earlier, and then
-/// judged by its own time.
-const ROUNDED_OFF: u64 = 999;
 
 struct Found<'a> {
     position: LogPosition,
@@ -45,15 +43,19 @@ pub fn run(args: &Args) -> Result<Outcome, Failure> {
     let limit = args.number_within("--limit", 1, u64::MAX)?;
     let limit = limit.unwrap_or(DEFAULT_LIMIT);
     let log = Log::open(args)?;
-    let indexes = index::open_all(args)?;
-    if indexes.is_empty() {
+    let Opened { indexes, faults } = index::open_all(args)?;
+    if indexes.is_empty() && faults.is_empty() {
+        log::tell(&log.faults);
         return fault(format!(
             "{}: no index in it; `swistopal rebuild` makes one from the log",
             args.place().display()
         ));
     }
 
-    let mut search = Search::default();
+    let mut search = Search {
+        faults: [log.faults.clone(), faults].concat(),
+        ..Search::default()
+    };
     // Newest first: the names are times.
     for index in indexes.iter().rev() {
         let missing = limit - search.found.len() as u64;
@@ -65,13 +67,16 @@ pub fn run(args: &Args) -> Result<Outcome, Failure> {
             index_geometry: index.geometry,
             topic,
             key,
-            first_time: first_time.saturating_sub(ROUNDED_OFF),
-            last_time,
+            // All times: where a clock fell or the first time is 0, an item's time is not its record's.
+            first_time: 0,
+            last_time: time::LAST,
             wanted: 0,
         };
         search.faults.extend(index.doubt.clone());
         search.ask(&log, &ask, &index.name, (first_time, last_time), missing)?;
     }
+    let not_reached = not_reached(&log, &indexes, args.place())?;
+    search.faults.extend(not_reached);
 
     let with_body = args.flag("--body");
     let mut out = out();
@@ -105,11 +110,54 @@ pub fn run(args: &Args) -> Result<Outcome, Failure> {
     }
     out.flush()?;
     search.tell(topic, key);
+    log::tell(&search.faults);
     if search.faults.is_empty() {
         Ok(Outcome::Sound)
     } else {
         Ok(Outcome::Fault)
     }
+}
+
+/// What of the log the index does not reach. The log is read on from the last record that has an item up to the next one
+/// that should have some, or to its end.
+fn not_reached(log: &Log, indexes: &[Index], store: &Path) -> Result<Option<String>, Failure> {
+    let last_of = |index: &Index| Bytes(&index.bytes).last_position().map(LogPosition);
+    let Some(newest) = indexes.iter().max_by_key(|index| last_of(index)) else {
+        return Ok(None);
+    };
+    let last = last_of(newest);
+    let from = last.unwrap_or_default().max(log.first());
+    if from >= log.end() {
+        return Ok(None);
+    }
+    let mut next = None;
+    let end = log.walk(from, |position, entry| {
+        if let Entry::Record { message, .. } = entry {
+            if Some(position) > last && has_items(message) {
+                next = Some(position);
+            }
+        }
+        Ok(next.is_none())
+    })?;
+    let reach = match last {
+        Some(last) => format!("it ends with the record at position {}", last.0),
+        None => String::from("it is empty"),
+    };
+    let (name, store) = (&newest.name, store.display());
+    Ok(match next {
+        Some(next) => Some(format!(
+            "index {name}: {reach}, but the log goes on with keys: no record from position {} to the end of its files at {} \
+             is found; `swistopal rebuild {store} --force` makes the index of the whole log",
+            next.0,
+            log.end().0
+        )),
+        None if end.sound() => None,
+        None => Some(format!(
+            "index {name}: {reach}, and from there on the log {}; records behind are not found; `swistopal check {store}` \
+             says what to do",
+            end.sentence()
+        )),
+    })
 }
 
 impl<'a> Search<'a> {
@@ -220,9 +268,6 @@ impl<'a> Search<'a> {
             note(&format!(
                 "{others} left out: another key with the same hash"
             ));
-        }
-        for fault in &self.faults {
-            note(fault);
         }
     }
 }

@@ -33,15 +33,18 @@ pub fn run(args: &Args) -> Result<Outcome, Failure> {
         return usage(format!("{}: a folder is needed", args.place().display()));
     }
     let files = queues::open(args.place(), &queue)?;
-    let Some(last) = files.last() else {
+    let store = args.place().display();
+    let Some(count) = queues::count(&files) else {
+        log::tell(&log.faults);
         return fault(format!(
-            "{}: no queue {} in it; `swistopal check` shows those that are there, `swistopal rebuild` makes them from the log",
-            args.place().display(),
+            "{store}: no queue {} in it; `swistopal list --long {store}` shows topic and queue of each record, \
+             `swistopal rebuild` makes the queues from them",
             queue.shown()
         ));
     };
-    let count = last.first + last.count;
-    if start > count {
+    let file_faults = queues::faults(&files);
+    let whole = file_faults.is_empty();
+    if start > count && whole {
         return usage(format!(
             "--start {start}: queue {} has {}",
             queue.shown(),
@@ -58,7 +61,10 @@ pub fn run(args: &Args) -> Result<Outcome, Failure> {
     let (json, body) = (args.flag("--json"), args.flag("--body"));
     let with = With { topic: false, body };
     let mut out = out();
-    let mut faults = Vec::new();
+    let mut faults = log.faults.clone();
+    faults.extend(file_faults.into_iter().map(|fault| {
+        format!("{fault}; `swistopal rebuild {store} --force` makes the queues of the whole log")
+    }));
     let mut shown_records = 0u64;
     if json {
         let head = Object::new().bytes("topic", topic).number("queue", id);
@@ -101,11 +107,12 @@ pub fn run(args: &Args) -> Result<Outcome, Failure> {
     }
     out.flush()?;
     let records = counted(shown_records, "record", "records");
-    let entries = counted(count, "entry", "entries");
-    note(&format!(
-        "{records} of queue {}, which has {entries}",
-        queue.shown()
-    ));
+    let entries = if whole {
+        format!(", which has {}", counted(count, "entry", "entries"))
+    } else {
+        String::new()
+    };
+    note(&format!("{records} of queue {}{entries}", queue.shown()));
     log::tell(&faults);
     if faults.is_empty() {
         Ok(Outcome::Sound)
@@ -143,7 +150,7 @@ fn read(
         Ok(found) => Ok(found.to_vec()),
         Err(refusal) => fault(format!(
             "{}: answer {}: {refusal}",
-            file.path.display(),
+            file.place.display(),
             refusal.number()
         )),
     }

@@ -4,6 +4,7 @@ use crate::failure::{fault, usage, At, Failure};
 use crate::log::numbered_name;
 use crate::map::View;
 use crate::text::{grouped, shown};
+use std::cmp::Ordering;
 use std::ffi::OsStr;
 use std::fs::{self, File};
 use std::os::unix::ffi::OsStrExt;
@@ -45,7 +46,8 @@ impl Queue {
 
 /// One file of a queue.
 pub struct QueueFile {
-    pub path: PathBuf,
+    /// Its path as it is shown.
+    pub place: PathBuf,
     /// The number of its first entry.
     pub first: u64,
     pub bytes: View,
@@ -60,6 +62,81 @@ impl QueueFile {
         let sizes = (0..self.count).map(|number| size(&self.bytes, number));
         sizes.take_while(|size| *size == NO_RECORD).count() as u64
     }
+
+    /// The number behind its last entry.
+    fn end(&self) -> u64 {
+        self.first + self.entries.0
+    }
+
+    /// The first entry that is not empty, among its entries from one on.
+    fn not_empty_from(&self, entry: u64) -> Option<u64> {
+        let from = entry * QueueEntries::ENTRY_BYTES;
+        let at = not_zero(&self.bytes[from as usize..])? as u64;
+        Some(self.first + (from + at) / QueueEntries::ENTRY_BYTES)
+    }
+
+    /// What stands behind its first entry without a size, here or in the next file.
+    fn hole(&self, next: Option<&QueueFile>) -> Option<String> {
+        let next = next.filter(|_| self.count < self.entries.0);
+        let again = self.not_empty_from(self.count);
+        let again = again.or_else(|| next?.not_empty_from(0))?;
+        let (place, empty) = (self.place.display(), self.first + self.count);
+        let last = self.end() - 1;
+        Some(format!(
+            "{place}: the size of entry {empty} is 0, but bytes that are not zero stand from entry {again} on; \
+             entries {empty} to {last} are not shown"
+        ))
+    }
+
+    /// How the next file does not start where this one ends.
+    fn seam(&self, next: &QueueFile) -> Option<String> {
+        let (place, first, end) = (next.place.display(), next.first, self.end());
+        match first.cmp(&end) {
+            Ordering::Equal => None,
+            Ordering::Greater => Some(format!(
+                "{place}: it starts with entry {first}, but the file before it ends with entry {}; entries {end} to {} are not shown",
+                end - 1,
+                first - 1
+            )),
+            Ordering::Less => Some(format!(
+                "{place}: it starts with entry {first}, but the file before it goes on to entry {}",
+                end - 1
+            )),
+        }
+    }
+}
+
+/// How many entries a queue has by its files; those of files that were removed count.
+pub fn count(files: &[QueueFile]) -> Option<u64> {
+    let in_use = files.iter().rev().find(|file| file.count > 0);
+    let last = in_use.or(files.first())?;
+    Some(last.first + last.count)
+}
+
+/// What is wrong with a queue's files: holes, files that are missing, files that overlap.
+pub fn faults(files: &[QueueFile]) -> Vec<String> {
+    let mut faults = Vec::new();
+    for (number, file) in files.iter().enumerate() {
+        let next = files.get(number + 1);
+        faults.extend(file.hole(next));
+        faults.extend(next.and_then(|next| file.seam(next)));
+    }
+    faults
+}
+
+/// Where the first byte stands that is not zero. Blocks are compared first: most of a queue file may be zeros.
+fn not_zero(bytes: &[u8]) -> Option<usize> {
+    const ZEROS: [u8; 4096] = [0; 4096];
+    let mut blocks = bytes.chunks(ZEROS.len());
+    let block = blocks.position(|block| *block != ZEROS[..block.len()])?;
+    let from = block * ZEROS.len();
+    let at = bytes[from..].iter().position(|byte| *byte != 0)?;
+    Some(from + at)
+}
+
+/// A path for sentences: a topic below it may be any bytes.
+fn shown_path(path: &Path) -> PathBuf {
+    PathBuf::from(shown(path.as_os_str().as_bytes()))
 }
 
 fn size(bytes: &[u8], entry: u64) -> u32 {
@@ -68,23 +145,24 @@ fn size(bytes: &[u8], entry: u64) -> u32 {
     u32::from_be_bytes(size.expect("four bytes"))
 }
 
-pub fn open_file(path: PathBuf, first: u64) -> Result<QueueFile, Failure> {
-    let file = File::open(&path).at("open", &path)?;
-    let length = file.metadata().at("read", &path)?.len();
+fn open_file(path: &Path, first: u64) -> Result<QueueFile, Failure> {
+    let place = shown_path(path);
+    let file = File::open(path).at("open", &place)?;
+    let length = file.metadata().at("read", &place)?.len();
     let entries = length / QueueEntries::ENTRY_BYTES;
     if !length.is_multiple_of(QueueEntries::ENTRY_BYTES) || !(1..=MOST_ENTRIES).contains(&entries) {
         return fault(format!(
             "{}: {} bytes are no queue file; one has 20 for each of 1 to {} entries",
-            path.display(),
+            place.display(),
             grouped(length),
             grouped(MOST_ENTRIES)
         ));
     }
-    let bytes = View::of_file(&file, length as usize).at("map", &path)?;
+    let bytes = View::of_file(&file, length as usize).at("map", &place)?;
     let in_use = (0..entries).take_while(|number| size(&bytes, *number) != 0);
     let count = in_use.count() as u64;
     Ok(QueueFile {
-        path,
+        place,
         first,
         bytes,
         entries: QueueEntries(entries),
@@ -97,17 +175,16 @@ pub fn open(store: &Path, queue: &Queue) -> Result<Vec<QueueFile>, Failure> {
     let folder = queue.folder(&store.join("consumequeue"))?;
     let mut found = Vec::new();
     if folder.is_dir() {
-        for entry in fs::read_dir(&folder).at("read", &folder)? {
-            let entry = entry.at("read", &folder)?;
+        let place = shown_path(&folder);
+        for entry in fs::read_dir(&folder).at("read", &place)? {
+            let entry = entry.at("read", &place)?;
             if let Some(first) = entry.file_name().to_str().and_then(numbered_name) {
                 found.push((first / QueueEntries::ENTRY_BYTES, entry.path()));
             }
         }
     }
     found.sort();
-    let opened = found
-        .into_iter()
-        .map(|(first, path)| open_file(path, first));
+    let opened = found.iter().map(|(first, path)| open_file(path, *first));
     opened.collect()
 }
 
@@ -131,8 +208,9 @@ pub fn on_disk(store: &Path) -> Result<Vec<Queue>, Failure> {
 fn folders(folder: &Path) -> Result<Vec<PathBuf>, Failure> {
     let mut found = Vec::new();
     if folder.is_dir() {
-        for entry in fs::read_dir(folder).at("read", folder)? {
-            let path = entry.at("read", folder)?.path();
+        let place = shown_path(folder);
+        for entry in fs::read_dir(folder).at("read", &place)? {
+            let path = entry.at("read", &place)?.path();
             if path.is_dir() {
                 found.push(path);
             }
