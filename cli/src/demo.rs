@@ -2,7 +2,7 @@
 
 use crate::args::Args;
 use crate::failure::{fault, usage, At, Failure, Outcome};
-use crate::text::{counted, grouped};
+use crate::text::{counted, grouped, shown_path};
 use crate::{note, out};
 use std::fs;
 use std::io::Write;
@@ -29,7 +29,7 @@ pub fn run(args: &Args) -> Result<Outcome, Failure> {
     if occupied {
         return usage(format!(
             "{}: it is there already; demo makes a new folder",
-            store.display()
+            shown_path(store)
         ));
     }
     let mut sorter = Sorter::new();
@@ -41,18 +41,17 @@ pub fn run(args: &Args) -> Result<Outcome, Failure> {
         let path = folder.join(format!("{:020}", number * SEGMENT));
         fs::write(&path, segment).at("write", &path)?;
     }
+    let place = shown_path(store);
     let mut out = out();
     writeln!(
         out,
-        "{}: {} in {} of {} bytes, {}",
-        store.display(),
+        "{place}: {} in {} of {} bytes, {}",
         counted(sorter.records, "record", "records"),
         counted(SEGMENTS as u64, "segment", "segments"),
         grouped(SEGMENT as u64),
         counted(sorter.queues.len() as u64, "queue", "queues"),
     )?;
     out.flush()?;
-    let place = store.display();
     note(&format!("next: swistopal rebuild {place}"));
     note(&format!(
         "then: swistopal query {place} --topic {DIVERT} --key P000017"

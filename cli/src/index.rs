@@ -3,7 +3,7 @@
 use crate::args::Args;
 use crate::failure::{fault, usage, At, Failure};
 use crate::map::View;
-use crate::text::grouped;
+use crate::text::{grouped, shown_path};
 use std::fs::{self, File};
 use std::os::unix::ffi::OsStrExt;
 use std::path::{Path, PathBuf};
@@ -55,7 +55,7 @@ pub fn paths(store: &Path) -> Result<Vec<PathBuf>, Failure> {
 pub fn open_all(args: &Args) -> Result<Opened, Failure> {
     let store = args.place();
     if store.is_file() {
-        return usage(format!("{}: a folder is needed", store.display()));
+        return usage(format!("{}: a folder is needed", shown_path(store)));
     }
     let slots = args.number_within("--slots", 1, MOST_SLOTS)?;
     let mut opened = Opened::default();
@@ -65,7 +65,7 @@ pub fn open_all(args: &Args) -> Result<Opened, Failure> {
             Ok(index) => opened.indexes.push(index),
             Err(Failure::Fault(sentence)) => opened.faults.push(format!(
                 "{sentence}; it is not asked; `swistopal rebuild {} --force` makes one index of the whole log",
-                store.display()
+                shown_path(store)
             )),
             Err(Failure::Usage(sentence)) => {
                 opened.faults.push(format!("{sentence}; it is not asked"));
@@ -86,7 +86,7 @@ pub fn open(path: &Path, slots: Option<u64>) -> Result<Index, Failure> {
     if !length_possible(length) {
         return fault(format!(
             "{}: {} bytes are no index; one has 40 + 4 K + 20 N, K from 1 to {} and N from 2 to {}",
-            path.display(),
+            shown_path(path),
             grouped(length),
             grouped(MOST_SLOTS),
             grouped(MOST_ITEMS)
@@ -99,14 +99,14 @@ pub fn open(path: &Path, slots: Option<u64>) -> Result<Index, Failure> {
             None => {
                 return usage(format!(
                     "--slots {slots}: {} has {} bytes, not 40 + 4 K + 20 N",
-                    path.display(),
+                    shown_path(path),
                     grouped(length)
                 ))
             }
         },
         None => match found_geometry(&bytes) {
             Some(found) => found,
-            None => return fault(format!("{}: {}", path.display(), SIZES_UNKNOWN)),
+            None => return fault(format!("{}: {}", shown_path(path), SIZES_UNKNOWN)),
         },
     };
     let name = path.file_name().unwrap_or_default();

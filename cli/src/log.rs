@@ -148,13 +148,7 @@ impl Log {
             match self.entry(position) {
                 Ok(entry) => {
                     if !each(position, &entry)? {
-                        let answer = Answer::BudgetSpent;
-                        let why = Why::Stop;
-                        return Ok(End {
-                            position,
-                            answer,
-                            why,
-                        });
+                        return Ok(End::stopped(position, Answer::BudgetSpent));
                     }
                     position.0 += entry.length();
                 }
@@ -190,7 +184,7 @@ impl Log {
     }
 
     /// Total and magic are zero, as in a part of a segment that was never written.
-    fn zeros_at(&self, position: LogPosition) -> bool {
+    pub fn zeros_at(&self, position: LogPosition) -> bool {
         let rest = self.rest(position);
         !rest.is_empty() && rest.iter().take(8).all(|byte| *byte == 0)
     }
@@ -211,6 +205,15 @@ impl Log {
 }
 
 impl End {
+    /// What stands here cannot be read, or was not asked for.
+    pub fn stopped(position: LogPosition, answer: Answer) -> End {
+        End {
+            position,
+            answer,
+            why: Why::Stop,
+        }
+    }
+
     /// A sentence: where it ends and with which number.
     pub fn sentence(&self) -> String {
         let position = self.position.0;

@@ -3,10 +3,10 @@
 use crate::args::Args;
 use crate::failure::{fault, usage, Failure, Outcome};
 use crate::index::{self, Bytes, Index, Opened};
-use crate::log::{self, Log};
+use crate::log::{self, End, Log};
 use crate::properties::{has_items, Names};
 use crate::show::{self, With};
-use crate::text::{array, counted, shown, string, Object};
+use crate::text::{array, counted, shown, shown_path, string, Object};
 use crate::time;
 use crate::{note, out};
 use std::io::Write;
@@ -48,7 +48,7 @@ pub fn run(args: &Args) -> Result<Outcome, Failure> {
         log::tell(&log.faults);
         return fault(format!(
             "{}: no index in it; `swistopal rebuild` makes one from the log",
-            args.place().display()
+            shown_path(args.place())
         ));
     }
 
@@ -75,8 +75,9 @@ pub fn run(args: &Args) -> Result<Outcome, Failure> {
         search.faults.extend(index.doubt.clone());
         search.ask(&log, &ask, &index.name, (first_time, last_time), missing)?;
     }
-    let not_reached = not_reached(&log, &indexes, args.place())?;
-    search.faults.extend(not_reached);
+    search
+        .faults
+        .extend(not_reached(&log, &indexes, args.place()));
 
     let with_body = args.flag("--body");
     let mut out = out();
@@ -119,45 +120,43 @@ pub fn run(args: &Args) -> Result<Outcome, Failure> {
 }
 
 /// What of the log the index does not reach. The log is read on from the last record that has an item up to the next one
-/// that should have some, or to its end.
-fn not_reached(log: &Log, indexes: &[Index], store: &Path) -> Result<Option<String>, Failure> {
+/// that should have some. Zeros are taken for its end: what may stand behind them is for `check` to look at.
+fn not_reached(log: &Log, indexes: &[Index], store: &Path) -> Option<String> {
     let last_of = |index: &Index| Bytes(&index.bytes).last_position().map(LogPosition);
-    let Some(newest) = indexes.iter().max_by_key(|index| last_of(index)) else {
-        return Ok(None);
-    };
+    let newest = indexes.iter().max_by_key(|index| last_of(index))?;
     let last = last_of(newest);
-    let from = last.unwrap_or_default().max(log.first());
-    if from >= log.end() {
-        return Ok(None);
+    let mut position = last.unwrap_or_default().max(log.first());
+    if position >= log.end() {
+        return None;
     }
-    let mut next = None;
-    let end = log.walk(from, |position, entry| {
-        if let Entry::Record { message, .. } = entry {
-            if Some(position) > last && has_items(message) {
-                next = Some(position);
+    let stop = loop {
+        match log.entry(position) {
+            Ok(Entry::Record { message, .. }) if Some(position) > last && has_items(&message) => {
+                break None;
             }
+            Ok(entry) => position.0 += entry.length(),
+            Err(answer) => break Some(answer),
         }
-        Ok(next.is_none())
-    })?;
+    };
     let reach = match last {
         Some(last) => format!("it ends with the record at position {}", last.0),
         None => String::from("it is empty"),
     };
-    let (name, store) = (&newest.name, store.display());
-    Ok(match next {
-        Some(next) => Some(format!(
+    let (name, store) = (&newest.name, shown_path(store));
+    match stop {
+        None => Some(format!(
             "index {name}: {reach}, but the log goes on with keys: no record from position {} to the end of its files at {} \
              is found; `swistopal rebuild {store} --force` makes the index of the whole log",
-            next.0,
+            position.0,
             log.end().0
         )),
-        None if end.sound() => None,
-        None => Some(format!(
+        Some(_) if position == log.end() || log.zeros_at(position) => None,
+        Some(answer) => Some(format!(
             "index {name}: {reach}, and from there on the log {}; records behind are not found; `swistopal check {store}` \
              says what to do",
-            end.sentence()
+            End::stopped(position, answer).sentence()
         )),
-    })
+    }
 }
 
 impl<'a> Search<'a> {

@@ -5,7 +5,7 @@ use crate::failure::{fault, usage, Failure, Outcome};
 use crate::log::{self, Log};
 use crate::queues::{self, Queue, QueueFile};
 use crate::show::{self, With};
-use crate::text::{array, counted, shown, string, Object};
+use crate::text::{array, counted, shown, shown_path, string, Object};
 use crate::{note, out};
 use std::io::Write;
 use swistopal::{
@@ -30,10 +30,10 @@ pub fn run(args: &Args) -> Result<Outcome, Failure> {
     };
     let log = Log::open(args)?;
     if args.place().is_file() {
-        return usage(format!("{}: a folder is needed", args.place().display()));
+        return usage(format!("{}: a folder is needed", shown_path(args.place())));
     }
     let files = queues::open(args.place(), &queue)?;
-    let store = args.place().display();
+    let store = shown_path(args.place());
     let Some(count) = queues::count(&files) else {
         log::tell(&log.faults);
         return fault(format!(
@@ -150,7 +150,7 @@ fn read(
         Ok(found) => Ok(found.to_vec()),
         Err(refusal) => fault(format!(
             "{}: answer {}: {refusal}",
-            file.place.display(),
+            file.place,
             refusal.number()
         )),
     }

@@ -3,7 +3,7 @@
 use crate::failure::{fault, usage, At, Failure};
 use crate::log::numbered_name;
 use crate::map::View;
-use crate::text::{grouped, shown};
+use crate::text::{grouped, shown, shown_path};
 use std::cmp::Ordering;
 use std::ffi::OsStr;
 use std::fs::{self, File};
@@ -47,7 +47,7 @@ impl Queue {
 /// One file of a queue.
 pub struct QueueFile {
     /// Its path as it is shown.
-    pub place: PathBuf,
+    pub place: String,
     /// The number of its first entry.
     pub first: u64,
     pub bytes: View,
@@ -80,7 +80,7 @@ impl QueueFile {
         let next = next.filter(|_| self.count < self.entries.0);
         let again = self.not_empty_from(self.count);
         let again = again.or_else(|| next?.not_empty_from(0))?;
-        let (place, empty) = (self.place.display(), self.first + self.count);
+        let (place, empty) = (&self.place, self.first + self.count);
         let last = self.end() - 1;
         Some(format!(
             "{place}: the size of entry {empty} is 0, but bytes that are not zero stand from entry {again} on; \
@@ -90,7 +90,7 @@ impl QueueFile {
 
     /// How the next file does not start where this one ends.
     fn seam(&self, next: &QueueFile) -> Option<String> {
-        let (place, first, end) = (next.place.display(), next.first, self.end());
+        let (place, first, end) = (&next.place, next.first, self.end());
         match first.cmp(&end) {
             Ordering::Equal => None,
             Ordering::Greater => Some(format!(
@@ -134,11 +134,6 @@ fn not_zero(bytes: &[u8]) -> Option<usize> {
     Some(from + at)
 }
 
-/// A path for sentences: a topic below it may be any bytes.
-fn shown_path(path: &Path) -> PathBuf {
-    PathBuf::from(shown(path.as_os_str().as_bytes()))
-}
-
 fn size(bytes: &[u8], entry: u64) -> u32 {
     let place = (entry * QueueEntries::ENTRY_BYTES) as usize + 8;
     let size = bytes[place..place + 4].try_into();
@@ -147,18 +142,17 @@ fn size(bytes: &[u8], entry: u64) -> u32 {
 
 fn open_file(path: &Path, first: u64) -> Result<QueueFile, Failure> {
     let place = shown_path(path);
-    let file = File::open(path).at("open", &place)?;
-    let length = file.metadata().at("read", &place)?.len();
+    let file = File::open(path).at("open", path)?;
+    let length = file.metadata().at("read", path)?.len();
     let entries = length / QueueEntries::ENTRY_BYTES;
     if !length.is_multiple_of(QueueEntries::ENTRY_BYTES) || !(1..=MOST_ENTRIES).contains(&entries) {
         return fault(format!(
-            "{}: {} bytes are no queue file; one has 20 for each of 1 to {} entries",
-            place.display(),
+            "{place}: {} bytes are no queue file; one has 20 for each of 1 to {} entries",
             grouped(length),
             grouped(MOST_ENTRIES)
         ));
     }
-    let bytes = View::of_file(&file, length as usize).at("map", &place)?;
+    let bytes = View::of_file(&file, length as usize).at("map", path)?;
     let in_use = (0..entries).take_while(|number| size(&bytes, *number) != 0);
     let count = in_use.count() as u64;
     Ok(QueueFile {
@@ -175,9 +169,8 @@ pub fn open(store: &Path, queue: &Queue) -> Result<Vec<QueueFile>, Failure> {
     let folder = queue.folder(&store.join("consumequeue"))?;
     let mut found = Vec::new();
     if folder.is_dir() {
-        let place = shown_path(&folder);
-        for entry in fs::read_dir(&folder).at("read", &place)? {
-            let entry = entry.at("read", &place)?;
+        for entry in fs::read_dir(&folder).at("read", &folder)? {
+            let entry = entry.at("read", &folder)?;
             if let Some(first) = entry.file_name().to_str().and_then(numbered_name) {
                 found.push((first / QueueEntries::ENTRY_BYTES, entry.path()));
             }
@@ -208,9 +201,8 @@ pub fn on_disk(store: &Path) -> Result<Vec<Queue>, Failure> {
 fn folders(folder: &Path) -> Result<Vec<PathBuf>, Failure> {
     let mut found = Vec::new();
     if folder.is_dir() {
-        let place = shown_path(folder);
-        for entry in fs::read_dir(folder).at("read", &place)? {
-            let path = entry.at("read", &place)?.path();
+        for entry in fs::read_dir(folder).at("read", folder)? {
+            let path = entry.at("read", folder)?.path();
             if path.is_dir() {
                 found.push(path);
             }
@@ -223,14 +215,14 @@ fn folders(folder: &Path) -> Result<Vec<PathBuf>, Failure> {
 pub fn read_list(path: &Path) -> Result<Vec<Queue>, Failure> {
     let text = match fs::read_to_string(path) {
         Ok(text) => text,
-        Err(error) => return usage(format!("--queues {}: {error}", path.display())),
+        Err(error) => return usage(format!("--queues {}: {error}", shown_path(path))),
     };
     let mut queues: Vec<Queue> = Vec::new();
     for (number, line) in text.lines().enumerate() {
         if line.trim().is_empty() {
             continue;
         }
-        let place = format!("{}, line {}", path.display(), number + 1);
+        let place = format!("{}, line {}", shown_path(path), number + 1);
         let parts = line.rsplit_once(' ').and_then(|(topic, id)| {
             let topic = crate::text::of_shown(topic)?;
             let id = crate::args::number(id)?;
@@ -250,7 +242,7 @@ pub fn read_list(path: &Path) -> Result<Vec<Queue>, Failure> {
     if !(1..=MOST_QUEUES).contains(&queues.len()) {
         return usage(format!(
             "{}: {} queues; 1 to {MOST_QUEUES} can be listed",
-            path.display(),
+            shown_path(path),
             queues.len()
         ));
     }
