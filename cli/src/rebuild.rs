@@ -83,7 +83,7 @@ pub fn run(args: &Args) -> Result<Outcome, Failure> {
     }
 }
 
-/// The rebuild that is under way, or a new one. Nothing is written before all that was asked for has been judged.
+/// The rebuild that is under way, or a new one. Before all that was asked for has been judged, at most a lock is written.
 fn open(
     store: &Path,
     log: &Log,

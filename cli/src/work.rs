@@ -19,6 +19,7 @@ use swistopal::{
 
 const FOLDER: &str = "swistopal.rebuild";
 const FINISHED: &str = "swistopal.rebuild.done";
+const LOCK: &str = "lock";
 /// What a rebuild puts into the store.
 const RESULTS: [&str; 2] = ["consumequeue", "index"];
 
@@ -30,19 +31,13 @@ pub struct Claim {
 }
 
 impl Claim {
-    /// The rebuild that is under way, if there is one. Nothing is written.
+    /// The rebuild that is under way, if there is one. At most its lock is written, if it was cut before it had one.
     pub fn existing(store: &Path) -> Result<Option<Claim>, Failure> {
         let folder = store.join(FOLDER);
         if !folder.exists() {
             return Ok(None);
         }
-        // Ours has the lock, or nothing if it was cut right at its beginning.
-        if !folder.join("lock").exists() && !empty(&folder) {
-            return usage(format!(
-                "{}: it is not the work folder of a rebuild; move it away",
-                folder.display()
-            ));
-        }
+        ask_for_lock(&folder)?;
         Claim::lock(store, folder).map(Some)
     }
 
@@ -58,7 +53,7 @@ impl Claim {
     }
 
     fn lock(store: &Path, folder: PathBuf) -> Result<Claim, Failure> {
-        let path = folder.join("lock");
+        let path = folder.join(LOCK);
         let mut options = OpenOptions::new();
         let lock = options.create(true).truncate(false).write(true);
         let lock = lock.open(&path).at("open", &path)?;
@@ -448,13 +443,41 @@ pub fn under_way(store: &Path) -> bool {
     store.join(FOLDER).join("plan").exists()
 }
 
+/// A folder of ours has the lock, or nothing if it was cut right at its beginning or its end.
+fn ask_for_lock(folder: &Path) -> Result<(), Failure> {
+    if folder.join(LOCK).exists() || empty(folder) {
+        return Ok(());
+    }
+    usage(format!(
+        "{}: it is not the work folder of a rebuild; move it away",
+        folder.display()
+    ))
+}
+
 /// What a finished or discarded rebuild may have left.
 pub fn remove_finished(store: &Path) -> Result<(), Failure> {
     let finished = store.join(FINISHED);
-    if finished.exists() {
-        fs::remove_dir_all(&finished).at("remove", &finished)?;
+    if !finished.exists() {
+        return Ok(());
     }
-    Ok(())
+    ask_for_lock(&finished)?;
+    remove(&finished).at("remove", &finished)
+}
+
+/// The lock goes last: by it what a cut leaves is known as ours.
+fn remove(folder: &Path) -> io::Result<()> {
+    // A link goes without what it leads to.
+    if !folder.is_symlink() {
+        for entry in fs::read_dir(folder)? {
+            let entry = entry?;
+            if entry.file_type()?.is_dir() {
+                fs::remove_dir_all(entry.path())?;
+            } else if entry.file_name() != LOCK {
+                fs::remove_file(entry.path())?;
+            }
+        }
+    }
+    fs::remove_dir_all(folder)
 }
 
 /// Waits until the disk has a folder's names. Some file systems know no such wait for folders.
