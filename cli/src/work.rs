@@ -45,7 +45,8 @@ impl Claim {
         let folder = store.join(FOLDER);
         if let Err(error) = fs::create_dir(&folder) {
             return fault(format!(
-                "cannot create {}: {error}; a rebuild works inside the store, so copy it to where it can be written",
+                "cannot create {}: {error}; a rebuild works inside the store: move away what is in its place, \
+                 or copy the store to where it can be written",
                 folder.display()
             ));
         }
