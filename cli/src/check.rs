@@ -61,10 +61,11 @@ pub fn run(args: &Args) -> Result<Outcome, Failure> {
     let log = Log::open(args)?;
     let mut report = Report::default();
     let end = check_log(&log, &mut report)?;
+    advise_copies(args, &log, &end, &mut report);
     if !store.is_file() {
         check_rest(args, &log, &end, &mut report)?;
     }
-    if report.next.is_empty() {
+    if report.sound() && report.next.is_empty() {
         report.advise(String::from("nothing: the store is sound"));
     }
     print(args, &report)?;
@@ -114,14 +115,42 @@ fn check_log(log: &Log, report: &mut Report) -> Result<End, Failure> {
     for fault in &log.faults {
         report.add("log", false, fault.clone());
     }
-    if !end.sound() || !log.faults.is_empty() {
-        let segment = end.position.0 / log.geometry.segment_size * log.geometry.segment_size;
+    Ok(end)
+}
+
+/// Of which segments another copy is needed.
+fn advise_copies(args: &Args, log: &Log, end: &End, report: &mut Report) {
+    let place = args.place();
+    let until = format!("until then a rebuild goes up to {}", end.position.0);
+    let size = log.geometry.segment_size;
+    let first = end.position.0 / size * size;
+    let (name, path) = match place.is_file() {
+        true => (place.display().to_string(), place.to_path_buf()),
+        false => {
+            let name = format!("commitlog/{first:020}");
+            let path = place.join(&name);
+            (name, path)
+        }
+    };
+    let inside_a_record = end.answer == Answer::NotReadable && args.value("--end").is_some();
+    let damaged = !end.sound() && !inside_a_record;
+    if inside_a_record {
         report.advise(format!(
-            "get another copy of commitlog/{segment:020}; until then rebuild and query go up to {}",
+            "name an --end where a record ends, as {}",
             end.position.0
         ));
     }
-    Ok(end)
+    if damaged {
+        report.advise(format!("get another copy of {name}; {until}"));
+    }
+    // A fault begins with its file.
+    let file = path.display().to_string();
+    let mut faults = log.faults.iter();
+    if faults.any(|fault| !damaged || !fault.starts_with(&file)) {
+        report.advise(format!(
+            "get another copy of each segment named above; {until}"
+        ));
+    }
 }
 
 fn check_rest(args: &Args, log: &Log, end: &End, report: &mut Report) -> Result<(), Failure> {
