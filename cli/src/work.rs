@@ -71,22 +71,6 @@ impl Claim {
         }
     }
 
-    /// The plan, once it has been written.
-    pub fn plan(&self) -> Result<Option<Plan>, Failure> {
-        let path = self.folder.join("plan");
-        if !path.exists() {
-            return Ok(None);
-        }
-        let text = fs::read_to_string(&path).at("read", &path)?;
-        match Plan::of_text(&text) {
-            Some(plan) => Ok(Some(plan)),
-            None => fault(format!(
-                "{}: it is damaged; --restart begins anew",
-                path.display()
-            )),
-        }
-    }
-
     /// Ends this rebuild and removes its folder: the rename is the end, the rest is tidying.
     pub fn discard(self) -> Result<(), Failure> {
         let finished = self.store.join(FINISHED);
@@ -439,9 +423,20 @@ pub fn results_in_the_way(store: &Path) -> Option<PathBuf> {
     RESULTS.iter().find_map(|name| occupied(store, name))
 }
 
-/// Whether a rebuild has begun and not ended.
-pub fn under_way(store: &Path) -> bool {
-    store.join(FOLDER).join("plan").exists()
+/// The plan of a rebuild that has begun and not ended, once it has been written.
+pub fn plan_under_way(store: &Path) -> Result<Option<Plan>, Failure> {
+    let path = store.join(FOLDER).join("plan");
+    if !path.exists() {
+        return Ok(None);
+    }
+    let text = fs::read(&path).at("read", &path)?;
+    match str::from_utf8(&text).ok().and_then(Plan::of_text) {
+        Some(plan) => Ok(Some(plan)),
+        None => fault(format!(
+            "{}: it is damaged; --restart begins anew",
+            path.display()
+        )),
+    }
 }
 
 /// A folder of ours has the lock, or nothing if it was cut right at its beginning or its end.

@@ -397,7 +397,7 @@ fn stops_of_a_rebuild() {
     tool("rebuild", &store, &items)
         .is(1, "stop      14: the index is full")
         .is(1, "more --items");
-    tool("check", &store, &[]).is(1, "go on with the rebuild");
+    tool("check", &store, &[]).is(1, "one has begun and stops at 83484 with 14");
     let enough = [
         "--restart",
         "--entries",
@@ -428,7 +428,7 @@ fn stops_of_a_rebuild() {
     });
     tool("rebuild", &many, &SMALL)
         .is(2, "a 17th queue, T/16; at most 16")
-        .is(2, "--queues FILE");
+        .is(2, "--queues FILE; --end 1472 rebuilds what is before it");
     tool("check", &many, &[]).is(1, "not compared: ");
     assert_eq!(files(&many).len(), 1);
 
