@@ -8,7 +8,7 @@ use crate::index::{self, Bytes, Index, MOST_ITEMS, MOST_SLOTS};
 use crate::log::{End, Log};
 use crate::map::Draft;
 use crate::out;
-use crate::plan::{Plan, Sizes};
+use crate::plan::{self, Plan, Sizes};
 use crate::queues::{self, directory, Queue};
 use crate::text::{array, counted, grouped, string, Object};
 use crate::time;
@@ -49,6 +49,13 @@ impl Report {
         self.missing.is_empty() && self.findings.iter().all(|finding| finding.sound)
     }
 
+    /// Whether queues and index are as the log gives them.
+    fn results_sound(&self) -> bool {
+        let mut findings = self.findings.iter();
+        self.missing.is_empty()
+            && findings.all(|finding| finding.sound || !["queues", "index"].contains(&finding.part))
+    }
+
     fn advise(&mut self, sentence: String) {
         if !self.next.contains(&sentence) {
             self.next.push(sentence);
@@ -61,10 +68,11 @@ pub fn run(args: &Args) -> Result<Outcome, Failure> {
     let log = Log::open(args)?;
     let mut report = Report::default();
     let end = check_log(&log, &mut report)?;
+    advise_copies(args, &log, &end, &mut report);
     if !store.is_file() {
         check_rest(args, &log, &end, &mut report)?;
     }
-    if report.next.is_empty() {
+    if report.sound() && report.next.is_empty() {
         report.advise(String::from("nothing: the store is sound"));
     }
     print(args, &report)?;
@@ -114,31 +122,114 @@ fn check_log(log: &Log, report: &mut Report) -> Result<End, Failure> {
     for fault in &log.faults {
         report.add("log", false, fault.clone());
     }
-    if !end.sound() || !log.faults.is_empty() {
-        let segment = end.position.0 / log.geometry.segment_size * log.geometry.segment_size;
-        report.advise(format!(
-            "get another copy of commitlog/{segment:020}; until then rebuild and query go up to {}",
-            end.position.0
-        ));
-    }
     Ok(end)
 }
 
-fn check_rest(args: &Args, log: &Log, end: &End, report: &mut Report) -> Result<(), Failure> {
-    let store = args.place();
-    let rebuild = format!("swistopal rebuild {}", store.display());
-    if work::under_way(store) {
-        report.add("rebuild", true, String::from("one has begun and not ended"));
-        report.advise(format!("go on with the rebuild: {rebuild}"));
+/// Of which segments another copy is needed.
+fn advise_copies(args: &Args, log: &Log, end: &End, report: &mut Report) {
+    let place = args.place();
+    let until = format!("until then a rebuild goes up to {}", end.position.0);
+    let size = log.geometry.segment_size;
+    let first = end.position.0 / size * size;
+    let (name, path) = match place.is_file() {
+        true => (place.display().to_string(), place.to_path_buf()),
+        false => {
+            let name = format!("commitlog/{first:020}");
+            let path = place.join(&name);
+            (name, path)
+        }
+    };
+    let inside_a_record = end.answer == Answer::NotReadable && args.value("--end").is_some();
+    let damaged = !end.sound() && !inside_a_record;
+    if inside_a_record {
+        report.advise(format!(
+            "name an --end where a record ends, as {}",
+            end.position.0
+        ));
     }
-    let mut indexes = Vec::new();
-    for path in index::paths(store)? {
-        match index::open(&path, args.number_within("--slots", 1, MOST_SLOTS)?) {
-            Ok(index) => indexes.push(index),
-            Err(Failure::Fault(sentence)) => report.add("index", false, sentence),
-            Err(other) => return Err(other),
+    if damaged {
+        report.advise(format!("get another copy of {name}; {until}"));
+    }
+    // A fault begins with its file.
+    let file = path.display().to_string();
+    let mut faults = log.faults.iter();
+    if faults.any(|fault| !damaged || !fault.starts_with(&file)) {
+        report.advise(format!(
+            "get another copy of each segment named above; {until}"
+        ));
+    }
+}
+
+/// The store as a rebuild finds it.
+struct Site<'a> {
+    args: &'a Args,
+    end: LogPosition,
+    damaged: bool,
+    in_the_way: bool,
+}
+
+impl Site<'_> {
+    fn of<'a>(args: &'a Args, log: &Log, end: &End) -> Site<'a> {
+        Site {
+            args,
+            end: end.position,
+            damaged: !end.sound() || !log.faults.is_empty(),
+            in_the_way: work::results_in_the_way(args.place()).is_some(),
         }
     }
+
+    /// Results that are there may go on behind the damage, and a rebuild would end them at it.
+    fn to_be_kept(&self) -> bool {
+        self.damaged && self.in_the_way
+    }
+
+    /// A command for this store, with those of the options that this check was given.
+    fn call(&self, command: &str, options: &[&str]) -> String {
+        let mut call = format!("swistopal {command} {}", self.args.place().display());
+        for name in options {
+            if let Some(value) = self.args.value(name) {
+                call += &format!(" {name} {}", value.display());
+            }
+        }
+        call
+    }
+
+    fn with_force(&self, options: &str) -> String {
+        match self.in_the_way {
+            true => format!("{options} --force"),
+            false => String::from(options),
+        }
+    }
+
+    /// A rebuild up to a position puts its results in place.
+    fn end_at(&self, position: LogPosition, options: &[&str]) -> String {
+        let LogPosition(at) = position;
+        let what = match self.in_the_way {
+            true => format!("replace queues and index, which then end at {at}"),
+            false => format!("put what is before {at} in place"),
+        };
+        let call = self.call("rebuild", options);
+        format!("{what}: {call}{}", self.with_force(&format!(" --end {at}")))
+    }
+
+    fn rebuild(&self) -> String {
+        let options = ["--queues", "--segment-size"];
+        if self.args.value("--end").is_some() {
+            return self.end_at(self.end, &options);
+        }
+        let call = self.call("rebuild", &options);
+        format!(
+            "make queues and index from the log: {call}{}",
+            self.with_force("")
+        )
+    }
+}
+
+fn check_rest(args: &Args, log: &Log, end: &End, report: &mut Report) -> Result<(), Failure> {
+    let listed = plan::listed(args)?;
+    let site = Site::of(args, log, end);
+    let under_way = check_work(&site, log, end, report)?;
+    let indexes = open_indexes(args, report)?;
     let geometry = indexes.last().map_or(
         IndexGeometry {
             slots: MOST_SLOTS,
@@ -146,46 +237,148 @@ fn check_rest(args: &Args, log: &Log, end: &End, report: &mut Report) -> Result<
         },
         |index| index.geometry,
     );
-    let list = args.value("--queues").map(Path::new);
-    let expected = match Plan::new(log, &Sizes::with_index(geometry), list) {
-        Ok(plan) => Some(Expected::from_log(log, end, plan)?),
-        Err(Failure::Fault(sentence) | Failure::Usage(sentence)) => {
-            report.add("queues", false, format!("not compared: {sentence}"));
-            None
-        }
-        Err(Failure::Unread) => return Err(Failure::Unread),
+    let made = match Plan::new(log, &Sizes::with_index(geometry), listed) {
+        Ok(plan) => Ok(Expected::from_log(log, end, plan)?),
+        Err(refusal) => Err(refusal),
     };
-    if let Some(expected) = &expected {
-        if expected.stop != Answer::Done {
-            let (number, position) = (expected.stop.number(), expected.progress.position.0);
-            report.add(
-                "log",
-                false,
-                format!(
-                    "a rebuild stops at {position} with {number}: {}",
-                    expected.stop
-                ),
-            );
+    match &made {
+        Ok(expected) => {
+            if expected.stop != Answer::Done {
+                let sentence = format!("a rebuild {}", expected.stops());
+                report.add("log", false, sentence);
+            }
+            check_queues(args.place(), end, expected, report)?;
+            check_indexes(&indexes, log, end, expected, report);
         }
-        let before = report.missing.len() + unsound(report);
-        check_queues(store, expected, report)?;
-        check_indexes(&indexes, log, end, expected, report);
-        if report.missing.len() + unsound(report) > before && !work::under_way(store) {
-            let force = match work::results_in_the_way(store) {
-                Some(_) => " --force",
-                None => "",
-            };
+        Err(refusal) => report.add("queues", false, format!("not compared: {}", refusal.why()?)),
+    }
+    if site.to_be_kept() {
+        if under_way || !report.results_sound() {
             report.advise(format!(
-                "make queues and index from the log: {rebuild}{force}"
+                "rebuild only after that: queues and index made now would end at {}, \
+                 those that are there may go on behind it",
+                end.position.0
             ));
+        }
+    } else if !under_way {
+        match made {
+            Ok(expected) => advise_on_results(&site, &expected, report),
+            Err(refusal) => advise_on_refusal(&site, refusal.before, report),
         }
     }
     Ok(())
 }
 
-fn unsound(report: &Report) -> usize {
-    let findings = report.findings.iter();
-    findings.filter(|finding| !finding.sound).count()
+fn open_indexes(args: &Args, report: &mut Report) -> Result<Vec<Index>, Failure> {
+    let slots = args.number_within("--slots", 1, MOST_SLOTS)?;
+    let mut indexes = Vec::new();
+    for path in index::paths(args.place())? {
+        match index::open(&path, slots) {
+            Ok(index) => indexes.push(index),
+            Err(Failure::Fault(sentence)) => report.add("index", false, sentence),
+            Err(other) => return Err(other),
+        }
+    }
+    Ok(indexes)
+}
+
+/// Whether a rebuild is under way.
+fn check_work(site: &Site, log: &Log, end: &End, report: &mut Report) -> Result<bool, Failure> {
+    match work::plan_under_way(site.args.place()) {
+        Ok(None) => return Ok(false),
+        Ok(Some(plan)) if plan.log == log.geometry => {
+            let expected = Expected::from_log(log, end, plan)?;
+            check_begun(site, &expected, report);
+        }
+        Ok(Some(_)) => {
+            let other = "one has begun with a log of another start or segment size";
+            advise_restart(site, String::from(other), report);
+        }
+        Err(Failure::Fault(sentence)) => advise_restart(site, sentence, report),
+        Err(other) => return Err(other),
+    }
+    Ok(true)
+}
+
+/// Whether the rebuild that is under way comes to its end.
+fn check_begun(site: &Site, expected: &Expected, report: &mut Report) {
+    let done = expected.stop == Answer::Done;
+    let sentence = match done {
+        true => String::from("one has begun and not ended"),
+        false => format!("one has begun and {}", expected.stops()),
+    };
+    report.add("rebuild", done, sentence);
+    if site.to_be_kept() {
+        return;
+    }
+    if done {
+        let call = site.call("rebuild", &["--segment-size", "--end"]);
+        report.advise(format!(
+            "go on with the rebuild, or begin anew with --restart: {call}{}",
+            site.with_force("")
+        ));
+    } else {
+        advise_on_stop(site, expected, report);
+        if expected.may_end() {
+            report.advise(site.end_at(expected.progress.position, &["--segment-size"]));
+        }
+    }
+}
+
+/// The rebuild that is under way cannot go on.
+fn advise_restart(site: &Site, sentence: String, report: &mut Report) {
+    report.add("rebuild", false, sentence);
+    if !site.to_be_kept() {
+        let call = site.call("rebuild", &["--queues", "--segment-size", "--end"]);
+        report.advise(format!(
+            "begin the rebuild anew: {call}{}",
+            site.with_force(" --restart")
+        ));
+    }
+}
+
+fn advise_on_stop(site: &Site, expected: &Expected, report: &mut Report) {
+    let remedy = expected
+        .plan
+        .remedy(expected.stop, &site.with_force("--restart"));
+    report.advise(format!("at {}: {remedy}", expected.progress.position.0));
+}
+
+fn advise_on_results(site: &Site, expected: &Expected, report: &mut Report) {
+    let position = expected.progress.position;
+    let stopped = expected.stop != Answer::Done;
+    if stopped {
+        advise_on_stop(site, expected, report);
+    }
+    match (report.results_sound(), stopped) {
+        (true, false) => {}
+        (true, true) => report.advise(format!(
+            "up to {} queues and index are in place",
+            position.0
+        )),
+        (false, false) => report.advise(site.rebuild()),
+        (false, true) if expected.may_end() => {
+            report.advise(site.end_at(position, &["--queues", "--segment-size"]))
+        }
+        (false, true) => {}
+    }
+}
+
+/// What to do where nothing could be compared.
+fn advise_on_refusal(site: &Site, before: Option<LogPosition>, report: &mut Report) {
+    let options = ["--queues", "--slots", "--segment-size"];
+    match before {
+        Some(position) if site.in_the_way => report.advise(format!(
+            "compare what is before {}: {} --end {}",
+            position.0,
+            site.call("check", &options),
+            position.0
+        )),
+        Some(position) => report.advise(site.end_at(position, &["--segment-size"])),
+        None => report.advise(String::from(
+            "get another copy of the log: nothing can be rebuilt from this one",
+        )),
+    }
 }
 
 /// What the archive makes from the log.
@@ -230,6 +423,19 @@ impl Expected {
         })
     }
 
+    fn stops(&self) -> String {
+        let position = self.progress.position.0;
+        format!(
+            "stops at {position} with {}: {}",
+            self.stop.number(),
+            self.stop
+        )
+    }
+
+    fn may_end(&self) -> bool {
+        self.plan.may_end(self.stop, &self.progress)
+    }
+
     fn queue(&self, row: usize) -> &[u8] {
         let region = self.plan.entries.0 as usize * ENTRY;
         let count = self.progress.counts[row].0 as usize;
@@ -237,7 +443,12 @@ impl Expected {
     }
 }
 
-fn check_queues(store: &Path, expected: &Expected, report: &mut Report) -> Result<(), Failure> {
+fn check_queues(
+    store: &Path,
+    end: &End,
+    expected: &Expected,
+    report: &mut Report,
+) -> Result<(), Failure> {
     let (mut sound, mut entries) = (0, 0);
     for (number, row) in expected.plan.rows.iter().enumerate() {
         let name = row.queue.shown();
@@ -249,8 +460,12 @@ fn check_queues(store: &Path, expected: &Expected, report: &mut Report) -> Resul
             }
             Err(other) => return Err(other),
         };
+        let count = expected.progress.counts[number].0 - row.start.0;
+        if files.is_empty() && count == 0 {
+            sound += 1;
+            continue;
+        }
         if files.is_empty() {
-            let count = expected.progress.counts[number].0 - row.start.0;
             let count = counted(count, "entry", "entries");
             report
                 .missing
@@ -292,7 +507,7 @@ fn check_queues(store: &Path, expected: &Expected, report: &mut Report) -> Resul
     let listed = expected.plan.queues();
     for queue in queues::on_disk(store)? {
         if !listed.contains(&queue) {
-            check_unlisted(store, &queue, report)?;
+            check_unlisted(store, end, &queue, report)?;
         }
     }
     Ok(())
@@ -321,14 +536,22 @@ fn difference(found: &[u8], made: &[u8], start: usize) -> Option<String> {
     }
 }
 
-fn check_unlisted(store: &Path, queue: &Queue, report: &mut Report) -> Result<(), Failure> {
+fn check_unlisted(
+    store: &Path,
+    end: &End,
+    queue: &Queue,
+    report: &mut Report,
+) -> Result<(), Failure> {
     let name = queue.shown();
     match queues::open(store, queue) {
         Ok(files) => {
             let count: u64 = files.iter().map(|file| file.count).sum();
             if count > 0 {
                 let count = counted(count, "entry", "entries");
-                let sentence = format!("{name}: {count}, but the log has no record of it");
+                let sentence = format!(
+                    "{name}: {count}, but the log has no record of it before {}",
+                    end.position.0
+                );
                 report.add("queues", false, sentence);
             }
         }

@@ -5,11 +5,14 @@ use crate::failure::{fault, usage, Failure};
 use crate::index::{MOST_ITEMS, MOST_SLOTS};
 use crate::log::Log;
 use crate::queues::{self, Queue, MOST_ENTRIES, MOST_QUEUES};
-use crate::text::{of_shown, shown};
+use crate::text::{grouped, of_shown, shown};
 use crate::time;
 use std::fmt::Write;
 use std::path::Path;
-use swistopal::{Entry, IndexGeometry, LogGeometry, LogPosition, QueueEntries, QueueOffset};
+use swistopal::{
+    Answer, Entry, IndexGeometry, LogGeometry, LogPosition, Message, Progress, QueueEntries,
+    QueueOffset,
+};
 
 const TITLE: &str = "swistopal rebuild 1";
 
@@ -55,78 +58,147 @@ impl Sizes {
     }
 }
 
-impl Plan {
-    /// For a new rebuild. Without sizes RocketMQ's own are taken, so that a broker can read the files; they are sparse.
-    pub fn new(log: &Log, sizes: &Sizes, list: Option<&Path>) -> Result<Plan, Failure> {
-        let listed = list.map(queues::read_list).transpose()?;
-        let derive = listed.is_none();
-        let mut rows: Vec<Row> = listed
-            .unwrap_or_default()
-            .into_iter()
-            .map(|queue| Row {
-                queue,
-                start: QueueOffset(0),
-            })
-            .collect();
-        let mut seen = vec![false; rows.len()];
-        let mut first_time = None;
-        let cut = log.first() > LogPosition(0);
-        log.walk(log.first(), |position, entry| {
-            let Entry::Record { message, .. } = entry else {
-                return Ok(true);
-            };
-            first_time.get_or_insert(message.store_time);
-            if !makes_entry(message.system_flag) {
-                return Ok(true);
-            }
-            let found = rows.iter().position(|row| {
-                row.queue.id == message.queue_id && row.queue.topic == message.topic
-            });
-            let row = match found {
-                Some(row) => row,
-                None if derive => {
-                    if rows.len() == MOST_QUEUES {
-                        return usage(format!(
-                            "the record at {} belongs to a 17th queue, {}/{}; at most {MOST_QUEUES} are rebuilt at once, \
-                             and --queues FILE has to list all queues of the log",
-                            position.0,
-                            shown(message.topic),
-                            message.queue_id
-                        ));
-                    }
-                    rows.push(Row {
-                        queue: Queue {
-                            topic: message.topic.to_vec(),
-                            id: message.queue_id,
-                        },
-                        start: QueueOffset(0),
-                    });
-                    seen.push(false);
-                    rows.len() - 1
-                }
-                None => return Ok(true),
-            };
-            if !seen[row] && cut {
-                rows[row].start = message.queue_offset;
-            }
-            seen[row] = true;
-            Ok(true)
-        })?;
-        if rows.is_empty() {
-            return fault("no record of the log belongs to a queue: there is nothing to rebuild");
+/// Why nothing can be planned.
+pub struct Refusal {
+    why: Failure,
+    /// The record that cannot be taken, if one before it can.
+    pub before: Option<LogPosition>,
+}
+
+impl Refusal {
+    pub fn why(&self) -> Result<&str, Failure> {
+        match &self.why {
+            Failure::Usage(why) | Failure::Fault(why) => Ok(why),
+            Failure::Unread => Err(Failure::Unread),
         }
-        let entries = QueueEntries(sizes.entries.unwrap_or(MOST_ENTRIES));
-        for row in &rows {
-            // Only a name that is a folder's may be planned for.
-            row.queue.folder(Path::new(""))?;
-            if row.start.0 > entries.0 {
+    }
+}
+
+impl From<Refusal> for Failure {
+    fn from(refusal: Refusal) -> Failure {
+        let next = refusal.before.map_or(String::new(), |before| {
+            format!("; --end {} rebuilds what is before it", before.0)
+        });
+        match refusal.why {
+            Failure::Usage(why) => Failure::Usage(why + &next),
+            Failure::Fault(why) => Failure::Fault(why + &next),
+            Failure::Unread => Failure::Unread,
+        }
+    }
+}
+
+/// The queues of `--queues FILE`.
+pub fn listed(args: &Args) -> Result<Option<Vec<Queue>>, Failure> {
+    let Some(path) = args.value("--queues").map(Path::new) else {
+        return Ok(None);
+    };
+    let queues = queues::read_list(path)?;
+    for queue in &queues {
+        if let Err(Failure::Fault(why)) = queue.folder(Path::new("")) {
+            return usage(format!("{}: {why}", path.display()));
+        }
+    }
+    Ok(Some(queues))
+}
+
+/// The rows of a plan while the log is read for them.
+struct Rows {
+    rows: Vec<Row>,
+    /// Which of them have a record.
+    seen: Vec<bool>,
+    /// Whether the log's queues are taken, as none were listed.
+    derive: bool,
+    entries: QueueEntries,
+    /// Whether older segments of the log were removed.
+    cut: bool,
+}
+
+impl Rows {
+    fn take(&mut self, position: LogPosition, message: &Message) -> Result<(), Failure> {
+        let found = self
+            .rows
+            .iter()
+            .position(|row| row.queue.id == message.queue_id && row.queue.topic == message.topic);
+        let number = match found {
+            Some(number) => number,
+            None if self.derive => self.add(position, message)?,
+            None => return Ok(()),
+        };
+        if !self.seen[number] && self.cut {
+            let row = &mut self.rows[number];
+            row.start = message.queue_offset;
+            if row.start.0 > self.entries.0 {
                 return fault(format!(
                     "queue {} starts with entry {}, past the {} entries of its one file",
                     row.queue.shown(),
                     row.start.0,
-                    entries.0
+                    self.entries.0
                 ));
             }
+        }
+        self.seen[number] = true;
+        Ok(())
+    }
+
+    fn add(&mut self, position: LogPosition, message: &Message) -> Result<usize, Failure> {
+        let queue = Queue {
+            topic: message.topic.to_vec(),
+            id: message.queue_id,
+        };
+        if self.rows.len() == MOST_QUEUES {
+            return usage(format!(
+                "the record at {} belongs to a 17th queue, {}; at most {MOST_QUEUES} are rebuilt at once, \
+                 the first ones or those of --queues FILE",
+                position.0,
+                queue.shown()
+            ));
+        }
+        // Only a name that is a folder's may be planned for.
+        queue.folder(Path::new(""))?;
+        let start = QueueOffset(0);
+        self.rows.push(Row { queue, start });
+        self.seen.push(false);
+        Ok(self.rows.len() - 1)
+    }
+}
+
+impl Plan {
+    /// For a new rebuild. Without sizes RocketMQ's own are taken, so that a broker can read the files; they are sparse.
+    pub fn new(log: &Log, sizes: &Sizes, listed: Option<Vec<Queue>>) -> Result<Plan, Refusal> {
+        let entries = QueueEntries(sizes.entries.unwrap_or(MOST_ENTRIES));
+        let derive = listed.is_none();
+        let start = QueueOffset(0);
+        let rows = listed.unwrap_or_default().into_iter();
+        let rows: Vec<Row> = rows.map(|queue| Row { queue, start }).collect();
+        let mut rows = Rows {
+            seen: vec![false; rows.len()],
+            rows,
+            derive,
+            entries,
+            cut: log.first() > LogPosition(0),
+        };
+        let mut first_time = None;
+        let mut reached = log.first();
+        let walked = log.walk(log.first(), |position, entry| {
+            reached = position;
+            if let Entry::Record { message, .. } = entry {
+                first_time.get_or_insert(message.store_time);
+                if makes_entry(message.system_flag) {
+                    rows.take(position, message)?;
+                }
+            }
+            Ok(true)
+        });
+        if let Err(why) = walked {
+            let before = rows.seen.contains(&true).then_some(reached);
+            return Err(Refusal { why, before });
+        }
+        if rows.rows.is_empty() {
+            let why = "no record of the log belongs to a queue: there is nothing to rebuild";
+            return Err(Refusal {
+                why: Failure::Fault(String::from(why)),
+                before: None,
+            });
         }
         Ok(Plan {
             log: log.geometry,
@@ -136,14 +208,18 @@ impl Plan {
                 items: sizes.items.unwrap_or(MOST_ITEMS),
             },
             index_name: time::file_name(first_time.unwrap_or(0)),
-            rows,
+            rows: rows.rows,
         })
     }
 
     /// Whether a rebuild under way is the one that is asked for now.
-    pub fn agrees(&self, log: &Log, sizes: &Sizes, list: Option<&Path>) -> Result<(), Failure> {
+    pub fn agrees(
+        &self,
+        log: &Log,
+        sizes: &Sizes,
+        listed: Option<&[Queue]>,
+    ) -> Result<(), Failure> {
         let differ = |asked: Option<u64>, planned: u64| asked.is_some_and(|asked| asked != planned);
-        let listed = list.map(queues::read_list).transpose()?;
         let what = if self.log != log.geometry {
             "a log of another start or segment size"
         } else if differ(sizes.entries, self.entries.0) {
@@ -160,6 +236,48 @@ impl Plan {
         usage(format!(
             "a rebuild with {what} is under way; without that option it goes on, with --restart a new one begins"
         ))
+    }
+
+    /// What helps against a stop; `anew` are the options that begin a rebuild anew.
+    pub fn remedy(&self, stop: Answer, anew: &str) -> String {
+        match stop {
+            Answer::QueueNotListed if self.rows.len() < MOST_QUEUES => {
+                format!("list its queue in --queues FILE and begin anew with {anew}")
+            }
+            Answer::QueueNotListed => {
+                format!("no more than the {MOST_QUEUES} queues of --queues FILE are rebuilt at once")
+            }
+            Answer::OutOfStep => String::from(
+                "get another copy of the log, as records before it are missing or were written twice",
+            ),
+            Answer::QueueFull if self.entries.0 < MOST_ENTRIES => format!(
+                "begin anew with {anew} and more --entries, at most {}",
+                grouped(MOST_ENTRIES)
+            ),
+            Answer::QueueFull => format!(
+                "no more than {} entries of a queue are rebuilt",
+                grouped(MOST_ENTRIES)
+            ),
+            Answer::IndexFull if self.index.items < MOST_ITEMS => format!(
+                "begin anew with {anew} and more --items, at most {}",
+                grouped(MOST_ITEMS)
+            ),
+            Answer::IndexFull => format!(
+                "no more than {} items of an index are rebuilt",
+                grouped(MOST_ITEMS - 1)
+            ),
+            _ => format!("the work files are damaged: begin anew with {anew}"),
+        }
+    }
+
+    /// Whether `--end` at a stop puts something in place: entries were made before it, and the work files are sound.
+    pub fn may_end(&self, stop: Answer, progress: &Progress) -> bool {
+        let sound = matches!(
+            stop,
+            Answer::QueueNotListed | Answer::OutOfStep | Answer::QueueFull | Answer::IndexFull
+        );
+        let mut counts = self.rows.iter().zip(&progress.counts);
+        sound && counts.any(|(row, count)| *count > row.start)
     }
 
     pub fn queues(&self) -> Vec<Queue> {

@@ -5,13 +5,14 @@ use crate::failure::{fault, usage, Failure, Outcome};
 use crate::journal::{Stage, State};
 use crate::log::{self, End, Log};
 use crate::meter::Meter;
-use crate::plan::{Plan, Sizes};
+use crate::plan::{self, Plan, Sizes};
+use crate::queues::Queue;
 use crate::text::{array, counted, grouped, Object};
 use crate::work::{self, Claim, Work};
 use crate::{note, out};
 use std::io::Write;
 use std::path::Path;
-use swistopal::{Answer, Dispatched, Entry, LogPosition};
+use swistopal::{Answer, Dispatched, Entry, Progress};
 
 /// Steps between two journals.
 const BATCH: u64 = 65_536;
@@ -24,12 +25,12 @@ pub fn run(args: &Args) -> Result<Outcome, Failure> {
     let budget = args.number("--budget")?.unwrap_or(u64::MAX);
     let batch = args.number_within("--batch", 1, u64::MAX)?.unwrap_or(BATCH);
     let sizes = Sizes::of(args)?;
-    let list = args.value("--queues").map(Path::new);
+    let listed = plan::listed(args)?;
     let force = args.flag("--force");
     let log = Log::open(args)?;
     log::tell(&log.faults);
 
-    let mut work = open(store, &log, &sizes, list, args)?;
+    let mut work = open(store, &log, &sizes, listed, args)?;
     if let Some(place) = work.in_the_way().filter(|_| !force) {
         return in_the_way(&place);
     }
@@ -73,7 +74,7 @@ pub fn run(args: &Args) -> Result<Outcome, Failure> {
     if done.stop == Answer::BudgetSpent {
         note("the same command goes on from here");
     } else if !caught_up {
-        note(&advice(&log, done.stop, state.progress.position));
+        note(&advice(&log, &plan, done.stop, &state.progress));
     }
     let stopped = !caught_up && done.stop != Answer::BudgetSpent;
     if stopped || !end.sound() || !log.faults.is_empty() {
@@ -83,19 +84,19 @@ pub fn run(args: &Args) -> Result<Outcome, Failure> {
     }
 }
 
-/// The rebuild that is under way, or a new one. Nothing is written before all that was asked for has been judged.
+/// The rebuild that is under way, or a new one. Before all that was asked for has been judged, at most a lock is written.
 fn open(
     store: &Path,
     log: &Log,
     sizes: &Sizes,
-    list: Option<&Path>,
+    listed: Option<Vec<Queue>>,
     args: &Args,
 ) -> Result<Work, Failure> {
     let restart = args.flag("--restart");
     let mut claim = Claim::existing(store)?;
     if let Some(under_way) = claim.take_if(|_| !restart) {
-        if let Some(plan) = under_way.plan()? {
-            plan.agrees(log, sizes, list)?;
+        if let Some(plan) = work::plan_under_way(store)? {
+            plan.agrees(log, sizes, listed.as_deref())?;
             return under_way.resume(plan);
         }
         claim = Some(under_way);
@@ -103,7 +104,7 @@ fn open(
     if let Some(place) = work::results_in_the_way(store).filter(|_| !args.flag("--force")) {
         return in_the_way(&place);
     }
-    let plan = Plan::new(log, sizes, list)?;
+    let plan = Plan::new(log, sizes, listed)?;
     if let Some(claim) = claim {
         claim.discard()?;
     }
@@ -202,7 +203,8 @@ fn report(
 }
 
 /// What to do about a stop that is none of the log's end.
-fn advice(log: &Log, stop: Answer, position: LogPosition) -> String {
+fn advice(log: &Log, plan: &Plan, stop: Answer, progress: &Progress) -> String {
+    let position = progress.position;
     let place = match log.entry(position) {
         Ok(Entry::Record { message, .. }) => format!(
             "the record at {}, entry {} of queue {}/{}",
@@ -213,14 +215,13 @@ fn advice(log: &Log, stop: Answer, position: LogPosition) -> String {
         ),
         _ => format!("position {}", position.0),
     };
-    let next = match stop {
-        Answer::QueueNotListed => "list its queue in --queues FILE and begin anew with --restart",
-        Answer::OutOfStep => {
-            "records before it are missing or were written twice: the log is not whole"
-        }
-        Answer::QueueFull => "begin anew with --restart and more --entries, at most 300,000",
-        Answer::IndexFull => "begin anew with --restart and more --items, at most 20,000,000",
-        _ => "the work files are damaged: begin anew with --restart",
+    let remedy = plan.remedy(stop, "--restart");
+    let end = match plan.may_end(stop, progress) {
+        true => format!(
+            "; the same command with --end {} puts what is before it in place",
+            position.0
+        ),
+        false => String::new(),
     };
-    format!("stopped before {place}; {next}")
+    format!("stopped before {place}; {remedy}{end}")
 }

@@ -19,6 +19,7 @@ use swistopal::{
 
 const FOLDER: &str = "swistopal.rebuild";
 const FINISHED: &str = "swistopal.rebuild.done";
+const LOCK: &str = "lock";
 /// What a rebuild puts into the store.
 const RESULTS: [&str; 2] = ["consumequeue", "index"];
 
@@ -30,19 +31,13 @@ pub struct Claim {
 }
 
 impl Claim {
-    /// The rebuild that is under way, if there is one. Nothing is written.
+    /// The rebuild that is under way, if there is one. At most its lock is written, if it was cut before it had one.
     pub fn existing(store: &Path) -> Result<Option<Claim>, Failure> {
         let folder = store.join(FOLDER);
         if !folder.exists() {
             return Ok(None);
         }
-        // Ours has the lock, or nothing if it was cut right at its beginning.
-        if !folder.join("lock").exists() && !empty(&folder) {
-            return usage(format!(
-                "{}: it is not the work folder of a rebuild; move it away",
-                folder.display()
-            ));
-        }
+        ask_for_lock(&folder)?;
         Claim::lock(store, folder).map(Some)
     }
 
@@ -50,7 +45,8 @@ impl Claim {
         let folder = store.join(FOLDER);
         if let Err(error) = fs::create_dir(&folder) {
             return fault(format!(
-                "cannot create {}: {error}; a rebuild works inside the store, so copy it to where it can be written",
+                "cannot create {}: {error}; a rebuild works inside the store: move away what is in its place, \
+                 or copy the store to where it can be written",
                 folder.display()
             ));
         }
@@ -58,7 +54,7 @@ impl Claim {
     }
 
     fn lock(store: &Path, folder: PathBuf) -> Result<Claim, Failure> {
-        let path = folder.join("lock");
+        let path = folder.join(LOCK);
         let mut options = OpenOptions::new();
         let lock = options.create(true).truncate(false).write(true);
         let lock = lock.open(&path).at("open", &path)?;
@@ -72,22 +68,6 @@ impl Claim {
                 fault(format!("{}: another rebuild is at work", folder.display()))
             }
             Err(TryLockError::Error(error)) => Err(error).at("lock", &path),
-        }
-    }
-
-    /// The plan, once it has been written.
-    pub fn plan(&self) -> Result<Option<Plan>, Failure> {
-        let path = self.folder.join("plan");
-        if !path.exists() {
-            return Ok(None);
-        }
-        let text = fs::read_to_string(&path).at("read", &path)?;
-        match Plan::of_text(&text) {
-            Some(plan) => Ok(Some(plan)),
-            None => fault(format!(
-                "{}: it is damaged; --restart begins anew",
-                path.display()
-            )),
         }
     }
 
@@ -443,18 +423,57 @@ pub fn results_in_the_way(store: &Path) -> Option<PathBuf> {
     RESULTS.iter().find_map(|name| occupied(store, name))
 }
 
-/// Whether a rebuild has begun and not ended.
-pub fn under_way(store: &Path) -> bool {
-    store.join(FOLDER).join("plan").exists()
+/// The plan of a rebuild that has begun and not ended, once it has been written.
+pub fn plan_under_way(store: &Path) -> Result<Option<Plan>, Failure> {
+    let path = store.join(FOLDER).join("plan");
+    if !path.exists() {
+        return Ok(None);
+    }
+    let text = fs::read(&path).at("read", &path)?;
+    match str::from_utf8(&text).ok().and_then(Plan::of_text) {
+        Some(plan) => Ok(Some(plan)),
+        None => fault(format!(
+            "{}: it is damaged; --restart begins anew",
+            path.display()
+        )),
+    }
+}
+
+/// A folder of ours has the lock, or nothing if it was cut right at its beginning or its end.
+fn ask_for_lock(folder: &Path) -> Result<(), Failure> {
+    if folder.join(LOCK).exists() || empty(folder) {
+        return Ok(());
+    }
+    usage(format!(
+        "{}: it is not the work folder of a rebuild; move it away",
+        folder.display()
+    ))
 }
 
 /// What a finished or discarded rebuild may have left.
 pub fn remove_finished(store: &Path) -> Result<(), Failure> {
     let finished = store.join(FINISHED);
-    if finished.exists() {
-        fs::remove_dir_all(&finished).at("remove", &finished)?;
+    if !finished.exists() {
+        return Ok(());
     }
-    Ok(())
+    ask_for_lock(&finished)?;
+    remove(&finished).at("remove", &finished)
+}
+
+/// The lock goes last: by it what a cut leaves is known as ours.
+fn remove(folder: &Path) -> io::Result<()> {
+    // A link goes without what it leads to.
+    if !folder.is_symlink() {
+        for entry in fs::read_dir(folder)? {
+            let entry = entry?;
+            if entry.file_type()?.is_dir() {
+                fs::remove_dir_all(entry.path())?;
+            } else if entry.file_name() != LOCK {
+                fs::remove_file(entry.path())?;
+            }
+        }
+    }
+    fs::remove_dir_all(folder)
 }
 
 /// Waits until the disk has a folder's names. Some file systems know no such wait for folders.

@@ -405,7 +405,7 @@ fn stops_of_a_rebuild() {
     tool("rebuild", &store, &items)
         .is(1, "stop      14: the index is full")
         .is(1, "more --items");
-    tool("check", &store, &[]).is(1, "go on with the rebuild");
+    tool("check", &store, &[]).is(1, "one has begun and stops at 83484 with 14");
     let enough = [
         "--restart",
         "--entries",
@@ -436,7 +436,7 @@ fn stops_of_a_rebuild() {
     });
     tool("rebuild", &many, &SMALL)
         .is(2, "a 17th queue, T/16; at most 16")
-        .is(2, "--queues FILE");
+        .is(2, "--queues FILE; --end 1472 rebuilds what is before it");
     tool("check", &many, &[]).is(1, "not compared: ");
     assert_eq!(files(&many).len(), 1);
 
@@ -602,19 +602,38 @@ fn work_folders_that_are_not_as_left() {
     assert_eq!(files(&store), before);
 }
 
+/// Even one who may write everywhere can create no folder where a link stands, and write nothing on a full medium.
 #[test]
 fn a_medium_that_cannot_be_written() {
-    use std::os::unix::fs::PermissionsExt;
+    use std::os::unix::fs::{symlink, PermissionsExt};
     let folder = Folder::new("medium");
     let store = folder.join("store");
     tool("demo", &store, &[]).is(0, "");
     let first = segment(&store, 0);
     fs::set_permissions(&first, fs::Permissions::from_mode(0o444)).unwrap();
-    fs::set_permissions(&store, fs::Permissions::from_mode(0o555)).unwrap();
     tool("list", &store, &[]).is(0, "stop 0");
-    // Whoever may write everywhere sees no read-only medium here.
-    if fs::write(store.join("probe"), "").is_err() {
-        tool("rebuild", &store, &SMALL).is(1, "copy it to where it can be written");
-    }
-    fs::set_permissions(&store, fs::Permissions::from_mode(0o755)).unwrap();
+    let work = store.join("swistopal.rebuild");
+    symlink("nowhere", &work).unwrap();
+    tool("rebuild", &store, &SMALL)
+        .is(1, "cannot create ")
+        .is(1, "swistopal.rebuild: File exists")
+        .is(1, "copy the store to where it can be written");
+    assert_eq!(fs::read_dir(&store).unwrap().count(), 2);
+    fs::remove_file(&work).unwrap();
+    fs::write(&work, "mine").unwrap();
+    tool("rebuild", &store, &SMALL).is(2, "it is not the work folder of a rebuild; move it away");
+    assert_eq!(fs::read(&work).unwrap(), b"mine");
+    fs::remove_file(&work).unwrap();
+
+    tool(
+        "rebuild",
+        &store,
+        &[&SMALL[..], &["--budget", "5"]].concat(),
+    )
+    .is(0, "stop      9");
+    symlink("/dev/full", work.join("journal.part")).unwrap();
+    tool("rebuild", &store, &[]).is(1, "journal.part: No space left on device");
+    fs::remove_file(work.join("journal.part")).unwrap();
+    tool("rebuild", &store, &[]).is(0, "439 in all");
+    tool("check", &store, &[]).is(0, "nothing: the store is sound");
 }

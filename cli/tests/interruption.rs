@@ -253,11 +253,17 @@ fn cut_at_the_beginning_and_at_the_end() {
     let store = built(&folder, "store");
     let expected = results(&store);
     let force = [&SMALL[..], &["--force"]].concat();
-    // Cut last of all: only a folder is left to be removed.
-    fs::create_dir_all(store.join("swistopal.rebuild.done/store")).unwrap();
-    tool("rebuild", &store, &force).is(0, "stop      0");
-    assert!(!store.join("swistopal.rebuild.done").exists());
-    assert_eq!(results(&store), expected);
+    // Cut last of all: only a folder is left to be removed, with its lock as long as anything is in it.
+    for left in [&["store", "lock"][..], &["lock"], &[]] {
+        let finished = store.join("swistopal.rebuild.done");
+        fs::create_dir(&finished).unwrap();
+        for name in left {
+            fs::write(finished.join(name), "").unwrap();
+        }
+        tool("rebuild", &store, &force).is(0, "stop      0");
+        assert!(!finished.exists());
+        assert_eq!(results(&store), expected);
+    }
     // Cut first of all: a folder without a lock.
     fs::create_dir(store.join("swistopal.rebuild")).unwrap();
     tool("rebuild", &store, &force).is(0, "stop      0");
