@@ -10,7 +10,7 @@ use crate::map::Draft;
 use crate::out;
 use crate::plan::{self, Plan, Sizes};
 use crate::queues::{self, directory, Queue};
-use crate::text::{array, counted, grouped, string, Object};
+use crate::text::{array, counted, grouped, shown_path, string, Object};
 use crate::time;
 use crate::work;
 use std::io::Write;
@@ -132,7 +132,7 @@ fn advise_copies(args: &Args, log: &Log, end: &End, report: &mut Report) {
     let size = log.geometry.segment_size;
     let first = end.position.0 / size * size;
     let (name, path) = match place.is_file() {
-        true => (place.display().to_string(), place.to_path_buf()),
+        true => (shown_path(place), place.to_path_buf()),
         false => {
             let name = format!("commitlog/{first:020}");
             let path = place.join(&name);
@@ -151,7 +151,7 @@ fn advise_copies(args: &Args, log: &Log, end: &End, report: &mut Report) {
         report.advise(format!("get another copy of {name}; {until}"));
     }
     // A fault begins with its file.
-    let file = path.display().to_string();
+    let file = shown_path(&path);
     let mut faults = log.faults.iter();
     if faults.any(|fault| !damaged || !fault.starts_with(&file)) {
         report.advise(format!(
@@ -185,10 +185,10 @@ impl Site<'_> {
 
     /// A command for this store, with those of the options that this check was given.
     fn call(&self, command: &str, options: &[&str]) -> String {
-        let mut call = format!("swistopal {command} {}", self.args.place().display());
+        let mut call = format!("swistopal {command} {}", shown_path(self.args.place()));
         for name in options {
             if let Some(value) = self.args.value(name) {
-                call += &format!(" {name} {}", value.display());
+                call += &format!(" {name} {}", shown_path(value));
             }
         }
         call

@@ -5,7 +5,7 @@ use crate::failure::{fault, usage, Failure};
 use crate::index::{MOST_ITEMS, MOST_SLOTS};
 use crate::log::Log;
 use crate::queues::{self, Queue, MOST_ENTRIES, MOST_QUEUES};
-use crate::text::{grouped, of_shown, shown};
+use crate::text::{grouped, of_shown, shown, shown_path};
 use crate::time;
 use std::fmt::Write;
 use std::path::Path;
@@ -95,7 +95,7 @@ pub fn listed(args: &Args) -> Result<Option<Vec<Queue>>, Failure> {
     let queues = queues::read_list(path)?;
     for queue in &queues {
         if let Err(Failure::Fault(why)) = queue.folder(Path::new("")) {
-            return usage(format!("{}: {why}", path.display()));
+            return usage(format!("{}: {why}", shown_path(path)));
         }
     }
     Ok(Some(queues))

@@ -7,7 +7,7 @@ use crate::log::{self, End, Log};
 use crate::meter::Meter;
 use crate::plan::{self, Plan, Sizes};
 use crate::queues::Queue;
-use crate::text::{array, counted, grouped, Object};
+use crate::text::{array, counted, grouped, shown_path, Object};
 use crate::work::{self, Claim, Work};
 use crate::{note, out};
 use std::io::Write;
@@ -20,7 +20,7 @@ const BATCH: u64 = 65_536;
 pub fn run(args: &Args) -> Result<Outcome, Failure> {
     let store = args.place();
     if store.is_file() {
-        return usage(format!("{}: a folder is needed", store.display()));
+        return usage(format!("{}: a folder is needed", shown_path(store)));
     }
     let budget = args.number("--budget")?.unwrap_or(u64::MAX);
     let batch = args.number_within("--batch", 1, u64::MAX)?.unwrap_or(BATCH);
@@ -115,7 +115,7 @@ fn open(
 fn in_the_way<T>(place: &Path) -> Result<T, Failure> {
     usage(format!(
         "{}: it is there already; move it away, or replace it with --force",
-        place.display()
+        shown_path(place)
     ))
 }
 

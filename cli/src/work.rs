@@ -9,6 +9,7 @@ use crate::journal::{Journal, Stage, State, Target, Writer};
 use crate::map::{Draft, View};
 use crate::plan::Plan;
 use crate::queues::{directory, FIRST_FILE, NO_RECORD};
+use crate::text::{grouped, shown_path};
 use std::fs::{self, File, OpenOptions, TryLockError};
 use std::io::{self, Write};
 use std::os::unix::fs::FileExt;
@@ -47,7 +48,7 @@ impl Claim {
             return fault(format!(
                 "cannot create {}: {error}; a rebuild works inside the store: move away what is in its place, \
                  or copy the store to where it can be written",
-                folder.display()
+                shown_path(folder)
             ));
         }
         Claim::lock(store, folder)
@@ -64,9 +65,10 @@ impl Claim {
                 folder,
                 _lock: lock,
             }),
-            Err(TryLockError::WouldBlock) => {
-                fault(format!("{}: another rebuild is at work", folder.display()))
-            }
+            Err(TryLockError::WouldBlock) => fault(format!(
+                "{}: another rebuild is at work",
+                shown_path(folder)
+            )),
             Err(TryLockError::Error(error)) => Err(error).at("lock", &path),
         }
     }
@@ -204,7 +206,7 @@ impl Work {
             Err(refusal) => {
                 return fault(format!(
                     "{}: answer {}: {refusal}; --restart begins anew",
-                    self.claim.folder.display(),
+                    shown_path(&self.claim.folder),
                     refusal.number()
                 ))
             }
@@ -230,12 +232,10 @@ impl Work {
     }
 
     fn open_targets(&self) -> Result<(File, File), Failure> {
-        let mut options = OpenOptions::new();
-        let options = options.read(true).write(true);
         let Parts { queues, index, .. } = &self.parts;
         Ok((
-            options.open(queues).at("open", queues)?,
-            options.open(index).at("open", index)?,
+            whole(queues, queues_length(&self.plan)?)?,
+            whole(index, index_length(&self.plan)?)?,
         ))
     }
 
@@ -258,7 +258,7 @@ impl Work {
             // It was whole when it was renamed: this is no crash but a worn medium.
             return fault(format!(
                 "{}: it is damaged; --restart begins anew",
-                path.display()
+                shown_path(path)
             ));
         };
         self.state = journal.state;
@@ -400,6 +400,23 @@ fn index_length(plan: &Plan) -> Result<usize, Failure> {
     length.map_or_else(|| fault(Answer::BadSizes.to_string()), Ok)
 }
 
+/// A work file as it was begun. One that was cut would only be lengthened again, with zeros for what it had.
+fn whole(path: &Path, length: usize) -> Result<File, Failure> {
+    let mut options = OpenOptions::new();
+    let opened = options.read(true).write(true).open(path);
+    let file = opened.at("open", path)?;
+    let found = file.metadata().at("read", path)?.len();
+    if found != length as u64 {
+        return fault(format!(
+            "{}: {} bytes, where the rebuild began with {}; --restart begins anew",
+            shown_path(path),
+            grouped(found),
+            grouped(length as u64)
+        ));
+    }
+    Ok(file)
+}
+
 /// A new file of zeros; where the file system can, they take no room.
 fn zeros(path: &Path, length: usize) -> Result<File, Failure> {
     let mut options = OpenOptions::new();
@@ -434,7 +451,7 @@ pub fn plan_under_way(store: &Path) -> Result<Option<Plan>, Failure> {
         Some(plan) => Ok(Some(plan)),
         None => fault(format!(
             "{}: it is damaged; --restart begins anew",
-            path.display()
+            shown_path(path)
         )),
     }
 }
@@ -446,7 +463,7 @@ fn ask_for_lock(folder: &Path) -> Result<(), Failure> {
     }
     usage(format!(
         "{}: it is not the work folder of a rebuild; move it away",
-        folder.display()
+        shown_path(folder)
     ))
 }
 

@@ -190,3 +190,29 @@ fn a_segment_that_is_cut_while_it_is_read() {
          and work on the copy; a rebuild under way begins anew there with --restart\n"
     );
 }
+
+/// A work file that was cut would only be lengthened again, with zeros for what it had.
+#[test]
+fn a_work_file_that_was_cut_is_told() {
+    let folder = Folder::new("cut_work");
+    let whole = built(&folder, "whole");
+    for name in ["queues", "store/index"] {
+        let store = folder.join(&name.replace('/', "_"));
+        tool("demo", &store, &[]).is(0, "");
+        let part = [&SMALL[..], &["--budget", "200"]].concat();
+        tool("rebuild", &store, &part).is(0, "stop      9");
+        let mut file = store.join("swistopal.rebuild").join(name);
+        if file.is_dir() {
+            let mut files = fs::read_dir(&file).unwrap();
+            file = files.next().unwrap().unwrap().path();
+        }
+        edit(&file, |bytes| bytes.truncate(100));
+        for run in [&tool("rebuild", &store, &[]), &tool("rebuild", &store, &[])] {
+            run.is(1, "100 bytes, where the rebuild began with")
+                .is(1, "--restart begins anew");
+        }
+        let anew = [&SMALL[..], &["--restart"]].concat();
+        tool("rebuild", &store, &anew).is(0, "stop      0");
+        assert_eq!(files(&store), files(&whole));
+    }
+}
