@@ -56,6 +56,8 @@ def main():
     with tempfile.TemporaryDirectory(prefix="swistopal-mutants-") as folder:
         copy = Path(folder, "reference")
         shutil.copytree(REFERENCE, copy, ignore=shutil.ignore_patterns("target"))
+        # The comparison declares the C functions as the bindings do.
+        shutil.copytree(REFERENCE.parent / "bindings", Path(folder, "bindings"), ignore=shutil.ignore_patterns("target"))
         # Each mutant is built once and run for seconds: what counts is the time to build it.
         environment = dict(os.environ, CARGO_TARGET_DIR=str(Path(folder, "target")), CARGO_INCREMENTAL="1", CARGO_PROFILE_RELEASE_OPT_LEVEL="1")
         environment.setdefault("SWISTOPAL_LIB_DIR", str(REFERENCE.parent / "target" / "staticlib"))

@@ -3,7 +3,7 @@
 
 // The lister is not timed.
 #[allow(dead_code)]
-#[path = "../../compare/src/archive.rs"]
+#[path = "../../../bindings/rust/src/archive.rs"]
 mod archive;
 mod data;
 mod effort;

@@ -1,6 +1,7 @@
 //! Compares the archive behind the C interface with the model, scenario by scenario. Scenario i of a seed depends on
 //! nothing else, so it can be repeated alone.
 
+#[path = "../../../bindings/rust/src/archive.rs"]
 mod archive;
 mod lent;
 mod lists;
