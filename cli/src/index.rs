@@ -64,7 +64,7 @@ pub fn open_all(args: &Args) -> Result<Opened, Failure> {
         match open(&path, slots) {
             Ok(index) => opened.indexes.push(index),
             Err(Failure::Fault(sentence)) => opened.faults.push(format!(
-                "{sentence}; it is not asked; `swistopal rebuild {} --force` makes one index of the whole log",
+                "{sentence}; it is not asked; `swistopal check {}` says what to do",
                 shown_path(store)
             )),
             Err(Failure::Usage(sentence)) => {

@@ -146,7 +146,7 @@ fn not_reached(log: &Log, indexes: &[Index], store: &Path) -> Option<String> {
     match stop {
         None => Some(format!(
             "index {name}: {reach}, but the log goes on with keys: no record from position {} to the end of its files at {} \
-             is found; `swistopal rebuild {store} --force` makes the index of the whole log",
+             is found; `swistopal check {store}` says what to do",
             position.0,
             log.end().0
         )),

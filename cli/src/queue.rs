@@ -62,9 +62,11 @@ pub fn run(args: &Args) -> Result<Outcome, Failure> {
     let with = With { topic: false, body };
     let mut out = out();
     let mut faults = log.faults.clone();
-    faults.extend(file_faults.into_iter().map(|fault| {
-        format!("{fault}; `swistopal rebuild {store} --force` makes the queues of the whole log")
-    }));
+    faults.extend(
+        file_faults
+            .into_iter()
+            .map(|fault| format!("{fault}; `swistopal check {store}` says what to do")),
+    );
     let mut shown_records = 0u64;
     if json {
         let head = Object::new().bytes("topic", topic).number("queue", id);

@@ -76,7 +76,7 @@ fn an_index_that_cannot_be_opened_keeps_no_other_from_being_asked() {
     fs::write(&cut, [0; 83]).unwrap();
     let next = format!(
         "20250101000000000: 83 bytes are no index; one has 40 + 4 K + 20 N, K from 1 to 5,000,000 and N from 2 to \
-         20,000,000; it is not asked; `swistopal rebuild {} --force` makes one index of the whole log",
+         20,000,000; it is not asked; `swistopal check {}` says what to do",
         store.display()
     );
     tool("query", &store, &PARCEL)
@@ -166,7 +166,7 @@ fn an_index_that_lags_behind_the_log_is_told() {
         let positions = grown(&store, 1, &records);
         let said = format!(
             "it ends with the record at position 4096, but the log goes on with keys: no record from position {} to the end \
-             of its files at 8192 is found; `swistopal rebuild {} --force` makes the index of the whole log",
+             of its files at 8192 is found; `swistopal check {}` says what to do",
             positions[3],
             store.display()
         );
@@ -228,7 +228,7 @@ fn a_hole_in_a_queue_is_told() {
     let store = built(&folder, "store");
     let file = queue_file(&store, "SORTER_TRIM", 0);
     let sound = fs::read(&file).unwrap();
-    let next = format!("`swistopal rebuild {} --force`", store.display());
+    let next = format!("`swistopal check {}` says what to do", store.display());
     let told = |empty: u32, again: u32| {
         format!(
             "{}: the size of entry {empty} is 0, but bytes that are not zero stand from entry {again} on; entries {empty} to \
@@ -286,7 +286,7 @@ fn files_of_a_queue_that_do_not_follow_each_other_are_told() {
         1,
         &format!(
             "{}: it starts with entry 16, but the file before it ends with entry 7; entries 8 to 15 are not shown; \
-             `swistopal rebuild {} --force`",
+             `swistopal check {}` says what to do",
             files[2].display(),
             store.display()
         ),
@@ -343,4 +343,23 @@ fn topics_are_shown_in_paths_too() {
     fs::remove_file(&file).unwrap();
     std::os::unix::fs::symlink("nowhere", &file).unwrap();
     says("No such file");
+}
+
+/// Only `check` knows whether a rebuild would shorten what is there: query and queue lead to it.
+#[test]
+fn a_lagging_index_behind_damage_is_kept() {
+    let folder = Folder::new("kept");
+    let store = folder.join("store");
+    let positions = grown(&store, 3, &[WITH_KEY; 5]);
+    edit(&segment(&store, 4096), |bytes| {
+        bytes[(positions[1] - 4096) as usize + 4] ^= 1;
+    });
+    let query = tool("query", &store, &KEY);
+    query
+        .is(1, "but the log goes on with keys")
+        .is(1, "says what to do");
+    assert!(!query.err.contains("rebuild"), "{}", query.err);
+    let check = tool("check", &store, &[]);
+    check.is(1, "rebuild only after that");
+    assert!(!check.out.contains("--force"), "{}", check.out);
 }

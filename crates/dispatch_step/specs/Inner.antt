@@ -63,7 +63,7 @@ Enterable (Halt a) r counts queues = Unit {0}
 Enterable Skip r counts queues = Unit {0}
 Enterable (Enter i) r counts queues = (i < 16) × (r ≤ 300000) × (getD counts i 0 < r) × (entryPlace r i (getD counts i 0) + 20 ≤ length queues)
 
--- and for a step
+-- what they leave for a step
 pub record Sound (f : Fixed) (v : View) (s : State) : Type 0 where
   pub geometry : GeometryFits (f .sizes .geometry) (length (v .log))
   pub within : Within (f .sizes .geometry) (length (v .log)) (s .position) (v .end)
