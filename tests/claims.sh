@@ -1,11 +1,15 @@
 #!/usr/bin/env bash
 # docs/CLAIMS.md against the tree: every file, name, test and wrong program that it names is there, it names every statement of a
-# specs/Claims.antt, and it has a row with two wrong programs or more for every public function. Prints what does not hold, exit 1 if anything
-# does not.
+# specs/Claims.antt, every statement is proved, and it has a row with two wrong programs or more for every public function. Prints what does not
+# hold, exit 1 if anything does not.
+#
+# A statement is what has no parameters: in a specs/Claims.antt all of it, elsewhere in specs/ each type that docs/CLAIMS.md names. It is proved by
+# a declaration whose whole type is its name, in the first column of a file that the crate's proofs/Lib.antt reaches: that the declaration holds
+# is the prover's to say.
 set -u
 cd "$(dirname "$0")/.." || exit 1
-exec python3 - <<'PYTHON'
-import fnmatch, glob, itertools, os, re, sys
+PYTHONPATH=tests exec python3 -B - <<'PYTHON'
+import antt, fnmatch, glob, itertools, os, re, sys
 
 faults = []
 sources = [p for folder in ("src", "specs", "proofs") for end in ("rt", "antt") for p in glob.glob(f"crates/*/{folder}/**/*.{end}", recursive=True)]
@@ -48,8 +52,25 @@ for number, line in enumerate(open("docs/CLAIMS.md"), 1):
         for code in re.findall(r"`([^`]*)`", cell):
             faults += [f"docs/CLAIMS.md:{number}: no crate has `{name}`" for name in re.findall(r"[A-Za-z_][\w′-]*(?!\*)\b", code) if name not in words]
 claims = open("docs/CLAIMS.md").read()
-for statements in sorted(glob.glob("crates/*/specs/Claims.antt")):
-    faults += [f"docs/CLAIMS.md: it does not name `{name}` of {statements}" for name in re.findall(r"^abbrev pub (\w+) : Type", open(statements).read(), re.M) if f"`{name}`" not in claims]
+statements = {}
+for source in sorted(glob.glob("crates/*/specs/**/*.antt", recursive=True)):
+    _, crate, _, module = source.removesuffix(".antt").split("/", 3)
+    for d in antt.declarations(source):
+        told, whole = f"`{d.name}`" in claims, "(" not in d.parameters and "→" not in d.type
+        if not whole or os.path.basename(source) != "Claims.antt" and (d.kind or d.type[:1] != ["Type"] or not told):
+            continue
+        statements[crate, f"{module.replace('/', '.')}.{d.name}"] = f"{source}:{d.line}: {d.name}"
+        if not told:
+            faults.append(f"docs/CLAIMS.md: it does not name `{d.name}` of {source}")
+proved = set()
+for folder in glob.glob("crates/*/proofs"):
+    for source in antt.reached(folder):
+        faults += [f"{source}:{line}: a hole" for line in antt.holes(source)]
+        with_clause = antt.clauses(source)
+        for d in antt.declarations(source):
+            if not d.kind and not d.parameters and len(d.type) == 1 and "axiom" not in d.marks and d.name in with_clause:
+                proved.add(antt.named(source, d.type[0]))
+faults += [f"{place} is not proved: no declaration that a proofs/Lib.antt reaches has it as its whole type" for key, place in statements.items() if key not in proved]
 for document in ("docs/DECISIONS.md", "docs/PROOFS.md"):
     for number, line in enumerate(open(document), 1):
         wrong_programs(document, number, line)
@@ -72,7 +93,7 @@ faults += [f"docs/CLAIMS.md:{number}: {function} is no public function" for func
 
 for fault in faults:
     print(fault)
-if faults or not functions:
+if faults or not functions or not statements:
     sys.exit(1)
-print(f"docs/CLAIMS.md: all that it names is there; {len(functions)} public functions, each with two wrong programs or more")
+print(f"docs/CLAIMS.md: all that it names is there; {len(statements)} statements, each proved; {len(functions)} public functions, each with two wrong programs or more")
 PYTHON
