@@ -2,7 +2,7 @@
 # The wrong programs of crates/*/must-fail, one by one: each is refused in the place that it names, and because a fact fails there. Run after
 # `rt must-fail` or `rt ci`, whose logs it reads; prints what does not hold, exit 1 if anything does not.
 #
-# `rt must-fail` asks that an edit is refused. An edit may hold several wrong programs, of functions none of which calls another. Each has a line
+# `rt must-fail` asks that an edit is refused. An edit may hold several wrong programs, one of a function. Each has a line
 #   wrong: NAME in FUNCTION      the function's own proof fails, or none is found for it
 #   wrong: NAME at proofs/FILE   an edit to a definition: a law in that file fails
 set -u
@@ -21,9 +21,9 @@ def refused(log, crate, kind, place):
     if kind == "in":
         if re.search(rf"^fn {crate}::{place}: no proof: .*`search` does not close", log, re.M):
             return True
-        # The whole line: where a function only calls one that is refused, it goes on to say so.
-        if not re.search(rf"^fn {crate}::{place}: not proved$", log, re.M):
+        if not re.search(rf"^fn {crate}::{place}: not proved(;|$)", log, re.M):
             return False
+    # Where a function only calls one that is refused, all that its own file has is that `close` was not admitted.
     file = place if kind == "at" else f"proofs/{place.replace('::', '/')}/Proof.antt"
     errors = re.findall(rf"/{re.escape(file)}:\d+:\d+: error: (.*)", log)
     return any("was not admitted" not in error for error in errors)
@@ -40,6 +40,7 @@ for edit in edits:
     before, *programs = re.split(r"^wrong: ", open(edit).read(), flags=re.M)
     if before or not programs:
         faults.append(f"{edit}: it does not start with a line 'wrong: NAME in FUNCTION'")
+    places = []
     for program in programs:
         head = re.match(r"(\w+) (in|at) (\S+)\n", program)
         if not head or not re.search(r"^old: .*\nnew:", program, re.M):
@@ -49,6 +50,9 @@ for edit in edits:
         if name in names.setdefault(crate, set()):
             faults.append(f"{edit}: {name} stands twice in the crate")
         names[crate].add(name)
+        if place in places or kind == "at" and len(programs) > 1:
+            faults.append(f"{edit}: {name}: its refusal cannot be told from that of another wrong program of the edit")
+        places.append(place)
         if not refused(log, crate, kind, place):
             faults.append(f"{edit}: {name}: {place} is not refused by itself")
 
