@@ -14,8 +14,8 @@ use Rattle.codec.proofs.Equal.{same-refl, same-true}
 use Rattle.directory.specs.declared.Listing.the-variants.{Refused, Rows}
 use Rattle.directory.specs.declared.Located.{Located}
 use Rattle.directory.specs.declared.Located.the-variants.{Unlisted, Row}
-use Rattle.directory.specs.Claims.{row, Fits, ListingRows, ListingRefused, RowFound, RowNone, OneRow, RowsDiffer}
-use Rattle.directory.specs.Directory.{Queue, rowLength, rowsWithin, names, rowFrom, listed, distinct, queues, counted, listing, rowOf}
+use Rattle.directory.specs.Claims.{Fits, ListingRows, ListingRefused, RowFound, RowNone, OneRow, RowsDiffer}
+use Rattle.directory.specs.Directory.{Queue, rowLength, rowsWithin, row, names, rowFrom, listed, distinct, queues, counted, listing, rowOf}
 use Rattle.codec.proofs.Choices.{both}
 use Rattle.directory.proofs.Chain.{nothing, rows-past, split}
 use Rattle.directory.proofs.Judged.{sound, not-refused}

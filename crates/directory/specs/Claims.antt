@@ -3,14 +3,10 @@ use Prim.Native.Nat.{ℕ, _≤_, _<_}
 use mathlib.Core.Path.{_≡_}
 use mathlib.Core.Bool.{true}
 use mathlib.Core.List.{List, []}
-use lib.ListN.{length, getD}
+use lib.ListN.{length}
 use Rattle.directory.specs.declared.Listing.the-variants.{Refused, Rows}
 use Rattle.directory.specs.declared.Located.the-variants.{Unlisted, Row}
-use Rattle.directory.specs.Directory.{Queue, names, queues, listing, rowOf}
-
--- the queue of row i
-abbrev pub row : List Queue → ℕ → Queue
-row qs i = getD qs i (record { topic = []; id = 0 })
+use Rattle.directory.specs.Directory.{Queue, names, row, queues, listing, rowOf}
 
 -- row i is there, and has this topic and id
 pub record Fits (topic : List ℕ) (id : ℕ) (qs : List Queue) (i : ℕ) : Type 0 where

@@ -4,7 +4,7 @@ use mathlib.Core.Bool.{Bool, true, false, not, _&&_}
 use mathlib.Core.List.{List, [], _∷_}
 use mathlib.Core.Option.{Option, none, some}
 use lib.Dec.{eqb, leb, ltb}
-use lib.ListN.{length, drop}
+use lib.ListN.{length, drop, getD}
 use Rattle.codec.specs.Bytes.{little, field, part, same}
 use Rattle.codec.specs.Choice.{pick}
 use Rattle.directory.specs.declared.Listing.{Listing}
@@ -51,6 +51,10 @@ rowsWithin zero bytes = pick (eqb (length bytes) 0) (some []) none
 rowsWithin (suc n) bytes =
     pick (eqb (length bytes) 0) (some [])
     (pick (rowOk bytes) (before (rowQueue bytes) (rowsWithin n (drop (rowLength bytes) bytes))) none)
+
+-- the queue of row i; rows are counted from 0
+abbrev pub row : List Queue → ℕ → Queue
+row qs i = getD qs i (record { topic = []; id = 0 })
 
 -- whether the queue is this topic's and id's
 unfoldable pub names : List ℕ → ℕ → Queue → Bool

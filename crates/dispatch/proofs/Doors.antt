@@ -15,7 +15,7 @@ use Rattle.units.specs.declared.Answer.the-variants.{BadSizes, BadPosition, Bad
 use Rattle.directory.specs.declared.Listing.{Listing}
 use Rattle.directory.specs.declared.Listing.the-variants.{Refused, Rows}
 use Rattle.commit_log.specs.Log.{geometryOk, outside}
-use Rattle.commit_log.specs.Inner.{GeometryFits}
+use Rattle.commit_log.specs.Door.{GeometryFits}
 use Rattle.commit_log.proofs.Doors.{geometry-fits, within}
 use Rattle.consume_queue.specs.Queue.{entriesOk, queueRows, countsOk}
 use Rattle.index_file.specs.Index.{sizesOk, headerSound}

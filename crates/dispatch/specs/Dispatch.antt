@@ -43,7 +43,7 @@ doorOf f v s =
 
 -- "the log's length .. stay the same, let the readable end never fall, and let log bytes below it not change"
 abbrev pub Extended : Fixed → View → View → Type 0
-Extended f v w = Rattle.commit_log.specs.Claims.Extends (f .sizes .geometry) (v .log) (w .log) (v .end) (w .end)
+Extended f v w = Rattle.commit_log.specs.Log.Extends (f .sizes .geometry) (v .log) (w .log) (v .end) (w .end)
 
 abbrev pub dispatcher : Machine
 dispatcher = record { Fixed = Fixed; View = View; State = State; door = doorOf; step = stepOf; Extends = Extended }

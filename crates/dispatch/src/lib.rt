@@ -1,6 +1,6 @@
 // Dispatch: the door, and the steps of a call under its budget.
 ghost use mathlib.Core.Path.{_≡_};
-ghost use Rattle.commit_log.specs.Inner.{GeometryFits};
+ghost use Rattle.commit_log.specs.Door.{GeometryFits};
 ghost use Rattle.machine.specs.Steps.{run};
 ghost use Rattle.machine.specs.Calls.{call};
 ghost use Rattle.dispatch_step.specs.Step.{stepOf};

@@ -17,7 +17,7 @@ use Rattle.record.specs.declared.Entry.{Entry}
 use Rattle.record.specs.declared.Entry.the-variants.{Stop, Blank, Message}
 use Rattle.record.proofs.Soundness.{message-framed}
 use Rattle.commit_log.specs.Log.{segmentRest, seen, entryWithin}
-use Rattle.commit_log.specs.Inner.{Within}
+use Rattle.commit_log.specs.Door.{Within}
 use Rattle.dispatch_step.specs.Step.{Fixed, View}
 use Rattle.dispatch_step.proofs.Moves.{seen-most}
 use Rattle.dispatch_ahead.specs.declared.DispatchRequest.{DispatchRequest}

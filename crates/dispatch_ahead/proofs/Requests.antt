@@ -21,8 +21,7 @@ use Rattle.record.specs.declared.Record.{Record}
 use Rattle.record.specs.declared.Entry.{Entry}
 use Rattle.record.specs.declared.Entry.the-variants.{Stop, Blank, Message}
 use Rattle.record.proofs.Entry.{the-type}
-use Rattle.commit_log.specs.Log.{entryWithin}
-use Rattle.commit_log.specs.Claims.{placeBytes}
+use Rattle.commit_log.specs.Log.{entryWithin, placeBytes}
 use Rattle.index_file.specs.Inner.{Collected}
 use Rattle.index_file.specs.Items.{itemKeys, hashes}
 use Rattle.index_file.proofs.Items.{length-hashes}

@@ -13,8 +13,7 @@ use Rattle.directory.specs.Directory.{rowOf}
 use Rattle.record.specs.declared.Record.{Record}
 use Rattle.record.specs.declared.Entry.{Entry}
 use Rattle.record.specs.declared.Entry.the-variants.{Stop, Blank, Message}
-use Rattle.commit_log.specs.Log.{entryWithin}
-use Rattle.commit_log.specs.Claims.{placeBytes}
+use Rattle.commit_log.specs.Log.{entryWithin, placeBytes}
 use Rattle.consume_queue.specs.Queue.{entriesOk, countsOk, entryBytes}
 use Rattle.index_file.specs.Inner.{Sized}
 use Rattle.index_file.specs.Items.{anyBadSlot, itemsAnswer, putAll}

@@ -3,7 +3,7 @@ ghost use mathlib.Core.Path.{_≡_};
 ghost use Prim.Native.Nat.{ℕ, _+_, _*_, _≤_, _<_};
 ghost use lib.ListN.{length};
 ghost use Rattle.properties.specs.Finder.{scanned};
-ghost use Rattle.commit_log.specs.Inner.{GeometryFits, Within};
+ghost use Rattle.commit_log.specs.Door.{GeometryFits, Within};
 ghost use Rattle.machine.specs.Steps.{walk, moved};
 ghost use Rattle.dispatch_step.specs.Step.{dutiesOf, recordHashes, stepOf};
 ghost use Rattle.dispatch_step.specs.Inner.{fixedOf, viewOf, stateOf, Listed, Sound};

@@ -9,7 +9,7 @@ use Rattle.codec.specs.Choice.{pick}
 use Rattle.codec.proofs.Choices.{both, neither, passed}
 use Rattle.units.specs.declared.Answer.{Answer}
 use Rattle.commit_log.specs.Log.{geometryOk, outside}
-use Rattle.commit_log.specs.Inner.{GeometryFits, Within}
+use Rattle.commit_log.specs.Door.{GeometryFits, Within}
 use Rattle.commit_log.proofs.Doors.{geometry-fits, within, inside}
 use Rattle.consume_queue.specs.Queue.{entriesOk, queueRows, countsOk}
 use Rattle.index_file.specs.Index.{sizesOk, headerSound}

@@ -16,8 +16,7 @@ use Rattle.record.specs.declared.Entry.the-variants.{Blank, Message}
 use Rattle.record.specs.Claims.{Whole}
 use Rattle.record.proofs.Soundness.{message-sound}
 use Rattle.commit_log.specs.declared.Geometry.{Geometry}
-use Rattle.commit_log.specs.Log.{segmentRest, seen, entryWithin}
-use Rattle.commit_log.specs.Claims.{placeBytes, Extends}
+use Rattle.commit_log.specs.Log.{segmentRest, seen, entryWithin, placeBytes, Extends}
 use Rattle.commit_log.proofs.Stays.{entry-stays}
 use Rattle.machine.specs.Steps.{moved}
 use Rattle.dispatch_step.specs.Step.{Fixed, View, State, entryHere, topicOf, propertiesOf, stepAs, stepOf}

@@ -16,7 +16,7 @@ use Rattle.record.specs.declared.Entry.{Entry}
 use Rattle.record.specs.declared.Entry.the-variants.{Stop, Blank, Message}
 use Rattle.record.proofs.Soundness.{blank-padded, message-framed, message-sound}
 use Rattle.commit_log.specs.Log.{seen, entryWithin}
-use Rattle.commit_log.specs.Inner.{GeometryFits, Within}
+use Rattle.commit_log.specs.Door.{GeometryFits, Within}
 use Rattle.machine.specs.Steps.{Outcome, moved, stopped}
 use Rattle.dispatch_step.specs.declared.Stepped.{Stepped}
 use Rattle.dispatch_step.specs.declared.Stepped.the-variants.{Moved, Stopped}

@@ -15,7 +15,7 @@ use Rattle.directory.specs.Directory.{queues as listedQueues}
 use Rattle.record.specs.declared.Record.{Record}
 use Rattle.record.specs.declared.Entry.the-variants.{Blank, Message}
 use Rattle.record.specs.Record.{fieldsSound}
-use Rattle.commit_log.specs.Inner.{GeometryFits, Within}
+use Rattle.commit_log.specs.Door.{GeometryFits, Within}
 use Rattle.consume_queue.specs.Queue.{entriesOk, queueRows, countsOk, entryPlace}
 use Rattle.index_file.specs.Inner.{Sized, Collected}
 use Rattle.index_file.specs.Items.{itemKeys, hashes, itemsAnswer}

@@ -22,8 +22,7 @@ use Rattle.directory.specs.Directory.{rowOf}
 use Rattle.record.specs.declared.Record.{Record}
 use Rattle.record.specs.declared.Entry.{Entry}
 use Rattle.record.specs.declared.Entry.the-variants.{Stop, Blank, Message}
-use Rattle.commit_log.specs.Log.{entryWithin}
-use Rattle.commit_log.specs.Claims.{placeBytes}
+use Rattle.commit_log.specs.Log.{entryWithin, placeBytes}
 use Rattle.consume_queue.specs.Queue.{entryPlace, entryBytes}
 use Rattle.index_file.specs.Items.{itemHashes, itemsAnswer, putAll}
 use Rattle.machine.specs.Steps.{Outcome, moved, stopped}
