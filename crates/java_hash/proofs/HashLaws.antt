@@ -1,17 +1,19 @@
 -- Laws of the hash: joined strings, one byte more, eight bytes more, topic and key. Assumes nothing.
-use Prim.Native.Nat.{ℕ, _+_, _*_, _-_, _%_, _/_, _<_, _≤_}
+use Prim.Native.Nat.{ℕ, suc, _+_, _*_, _-_, _%_, _/_, _^_, _<_, _≤_}
 use mathlib.Core.Path.{_≡_, refl, ap, sym, _∙_}
 use mathlib.Core.Bool.{Bool, true, false}
 use mathlib.Core.List.{List, [], _∷_, _++_}
-use native.Mathlib.Nat.{mod-add-div, add-mul-mod-self-left, mul-left-comm, mul-add, add-mul, mul-assoc, mod-lt}
+use native.Mathlib.Nat.{mod-add-div, add-mul-mod-self-left, mul-left-comm, mul-add, mul-assoc, mod-lt, add-zero, mod-add-mod, add-mod-mod, pow-suc}
 use native.Mathlib.Numerals.{add-one}
 use native.Mathlib.Omega.{arith}
 use lib.ListN.{length, getD, take, drop, length-drop, take-append-drop}
-use lib.Seq.{take-suc, take-all}
+use lib.Seq.{take-suc, take-all, take-add}
 use lib.Dec.{ltb, eqb}
 use borrow.Author.Tests.{lt-ltb, le-ltb, ne-eqb, ltb-true, ltb-false, eqb-false}
 use Rattle.codec.specs.Choice.{pick}
-use Rattle.java_hash.specs.Hash.{units, hashFrom, plus, minus, signed, carried, absolute, topicHash, keyHash, indexHash, slotOf, pairAt, quadAt, octetAt}
+use Rattle.codec.specs.Bytes.{part}
+use Rattle.codec.proofs.Parts.{length-part, part-add, part-cons, part-none}
+use Rattle.java_hash.specs.Hash.{units, hashFrom, plus, minus, signed, carried, absolute, topicHash, keyHash, indexHash, slotOf}
 use Rattle.java_hash.specs.Claims.{KeyHash, KeyHashSmall, IndexHashSmall, SlotWithin}
 
 -- ---- joined strings
@@ -40,8 +42,8 @@ key-hash topic key =
     ap (λ (h : ℕ). absolute (signed h))
     (ap (λ (h : ℕ). hashFrom h (units key)) (hash-append 0 (units topic) (35 ∷ [])) ∙ sym (hash-append 0 (units topic) (35 ∷ units key)))
 
-pub topic-step : (h r : ℕ) (topic : List ℕ) → h ≡ hashFrom 0 (units topic) → r ≡ (31 * h + 35) % 4294967296 → r ≡ topicHash topic
-unfolding topicHash hashFrom
+pub topic-step : (h r : ℕ) (topic : List ℕ) → h ≡ hashFrom 0 (units topic) → r ≡ hashFrom h (35 ∷ []) → r ≡ topicHash topic
+unfolding topicHash
 topic-step h r topic e f = f ∙ rw e (sym (hash-append 0 (units topic) (35 ∷ [])))
 
 -- ---- several bytes in one turn
@@ -53,43 +55,57 @@ absorb m c x y =
     = omega (arith, ap (λ (n : ℕ). c * n) (mod-add-div x m), mul-add c (x % m) (m * (x / m)), mul-left-comm c m (x / m)) in
     sym (ap (λ (n : ℕ). n % m) e ∙ add-mul-mod-self-left (c * (x % m) + y) m (c * (x / m)))
 
--- two turns of x ↦ c x + a make one of x ↦ d x + (c a + b), where d is the square of c modulo 2^32
-two-turns : (c d q : ℕ) → c * c ≡ d + 4294967296 * q → (h a b : ℕ) → (c * ((c * h + a) % 4294967296) + b) % 4294967296 ≡ (d * h + (c * a + b)) % 4294967296
-two-turns c d q e h a b =
-    let f : c * (c * h + a) + b ≡ (d * h + (c * a + b)) + 4294967296 * (q * h)
-    = omega (arith, mul-add c (c * h) a, mul-assoc c c h, ap (λ (n : ℕ). n * h) e, add-mul d (4294967296 * q) h, mul-assoc 4294967296 q h) in
-    absorb 4294967296 c (c * h + a) b ∙ ap (λ (n : ℕ). n % 4294967296) f ∙ add-mul-mod-self-left _ 4294967296 (q * h)
+-- a factor, then another
+pub times-more : (a b h : ℕ) {x r : ℕ} → x ≡ a * h % 4294967296 → r ≡ b * x % 4294967296 → r ≡ b * a * h % 4294967296
+times-more a b h e f =
+    f ∙ ap (λ (n : ℕ). b * n % 4294967296) e ∙ simp add-zero at (absorb 4294967296 b (a * h) 0) ∙ ap (λ (n : ℕ). n % 4294967296) (sym (mul-assoc b a h))
+
+pub one-more : (h u : ℕ) {b r : ℕ} → b ≡ 31 * h % 4294967296 → r ≡ (b + u) % 4294967296 → r ≡ hashFrom h (u ∷ [])
+unfolding hashFrom
+one-more h u e f = f ∙ rw e (mod-add-mod (31 * h) 4294967296 u)
+
+hash-lt : (h : ℕ) (us : List ℕ) → h < 4294967296 → hashFrom h us < 4294967296
+unfolding hashFrom
+hash-lt h [] k = k
+hash-lt h (u ∷ us) k = hash-lt ((31 * h + u) % 4294967296) us (omega arith)
+
+-- what a hash owes to its start: 31 times it for each unit
+shares : (h : ℕ) (us : List ℕ) → h < 4294967296 → hashFrom h us ≡ (31 ^ length us * h + hashFrom 0 us) % 4294967296
+unfolding hashFrom
+shares h [] k = omega arith
+shares h (u ∷ us) k =
+    let from : (x : ℕ) → hashFrom (x % 4294967296) us ≡ (31 ^ length us * x + hashFrom 0 us) % 4294967296
+    = λ x. shares (x % 4294967296) us (omega arith) ∙ absorb 4294967296 (31 ^ length us) x (hashFrom 0 us) in
+    let split : 31 ^ length us * (31 * h + u) + hashFrom 0 us ≡ 31 ^ suc (length us) * h + (31 ^ length us * (0 + u) + hashFrom 0 us)
+    = omega (arith, mul-add (31 ^ length us) (31 * h) u, mul-assoc (31 ^ length us) 31 h, ap (λ (x : ℕ). x * h) (pow-suc 31 (length us))) in
+    from (31 * h + u) ∙ ap (λ (x : ℕ). x % 4294967296) split
+    ∙ sym (ap (λ (x : ℕ). (31 ^ suc (length us) * h + x) % 4294967296) (from (0 + u)) ∙ add-mod-mod (31 ^ suc (length us) * h) (31 ^ length us * (0 + u) + hashFrom 0 us) 4294967296)
+
+-- m bytes more, by their own hash
+pub onward : (s : List ℕ) (m i : ℕ) {h b c r : ℕ} → i + m ≤ length s → h < 4294967296 → b ≡ 31 ^ m * h % 4294967296 → c ≡ hashFrom 0 (part m i s) → r ≡ (b + c) % 4294967296 → r ≡ hashFrom h (part m i s)
+onward s m i {h} k l e f g =
+    g ∙ rw (e, f) (mod-add-mod (31 ^ m * h) 4294967296 (hashFrom 0 (part m i s)))
+    ∙ sym (rw (length-part m i s k) at (shares h (part m i s) l))
+
+-- n bytes, then m more
+pub halves : (s : List ℕ) (n m i : ℕ) {a b c r : ℕ} → i + (n + m) ≤ length s → a ≡ hashFrom 0 (part n i s) → b ≡ 31 ^ m * a % 4294967296 → c ≡ hashFrom 0 (part m (i + n) s) → r ≡ (b + c) % 4294967296 → r ≡ hashFrom 0 (part (n + m) i s)
+halves s n m i k d e f g =
+    onward s m (i + n) (omega arith) (rw d (hash-lt 0 (part n i s) (omega arith))) e f g ∙ ap (λ (h : ℕ). hashFrom h (part m (i + n) s)) d
+    ∙ sym (rw (part-add n m i s) (hash-append 0 (part n i s) (part m (i + n) s)))
+
+pub single : (s : List ℕ) (i : ℕ) {x : ℕ} → i < length s → x ≡ getD s i 0 → x < 256 → x ≡ hashFrom 0 (part 1 i s)
+unfolding hashFrom
+single s i k e l = rw (part-cons 0 i s k, part-none (i + 1) s) (omega arith)
 
 module _ (start : ℕ) (s : List ℕ) where
-  to : ℕ → ℕ
-  to i = hashFrom start (units (take i s))
-
-  -- n bytes in one turn: times c, plus what f says of the bytes at i
-  abbrev Turn : ℕ → ℕ → (ℕ → ℕ) → Type 0
-  Turn n c f = (i : ℕ) → i + n ≤ length s → to (i + n) ≡ (c * to i + f i) % 4294967296
-
-  one : Turn 1 31 (λ (i : ℕ). getD s i 0)
-  unfolding to hashFrom units
-  one i h = rw (add-one, take-suc s i 0 (omega arith)) (hash-append start (take i s) (getD s i 0 ∷ []))
-
-  twice : (n c d q : ℕ) (f : ℕ → ℕ) → c * c ≡ d + 4294967296 * q → Turn n c f → Turn (n + n) d (λ (i : ℕ). c * f i + f (i + n))
-  twice n c d q f e t i h =
-      ap to (omega arith) ∙ t (i + n) (omega arith) ∙ ap (λ (x : ℕ). (c * x + f (i + n)) % 4294967296) (t i (omega arith))
-      ∙ two-turns c d q e (to i) (f i) (f (i + n))
-
-  eight : Turn 8 2487512833 (octetAt s)
-  eight =
-      twice 4 923521 2487512833 198 (quadAt s) refl
-      (twice 2 961 923521 0 (pairAt s) refl (twice 1 31 961 0 (λ (i : ℕ). getD s i 0) refl one))
-
   -- the turns of the loops
-  pub turn1 : (i h u r : ℕ) → i < length s → h ≡ hashFrom start (units (take i s)) → u ≡ getD s i 0 → r ≡ (31 * h + u) % 4294967296 → r ≡ hashFrom start (units (take (i + 1) s))
-  unfolding to
-  turn1 i h u r k e f g = g ∙ rw (e, f) (sym (one i (omega arith)))
+  pub turn1 : (i h u r : ℕ) → i < length s → h ≡ hashFrom start (units (take i s)) → u ≡ getD s i 0 → r ≡ hashFrom h (u ∷ []) → r ≡ hashFrom start (units (take (i + 1) s))
+  unfolding units
+  turn1 i h u r k e f g = g ∙ rw (e, f, add-one, take-suc s i 0 k) (sym (hash-append start (take i s) (getD s i 0 ∷ [])))
 
-  pub turn8 : (i h r : ℕ) → i + 8 ≤ length s → h ≡ hashFrom start (units (take i s)) → r ≡ (2487512833 * h + octetAt s i) % 4294967296 → r ≡ hashFrom start (units (take (i + 8) s))
-  unfolding to
-  turn8 i h r k e g = g ∙ rw e (sym (eight i k))
+  pub turn8 : (i h r : ℕ) → h ≡ hashFrom start (units (take i s)) → r ≡ hashFrom h (part 8 i s) → r ≡ hashFrom start (units (take (i + 8) s))
+  unfolding units part
+  turn8 i h r e g = g ∙ rw (e, take-add i 8 s) (sym (hash-append start (take i s) (take 8 (drop i s))))
 
   pub turn0 : start ≡ hashFrom start (units (take 0 s))
   unfolding hashFrom units
@@ -134,11 +150,6 @@ absolute-lt h k = go (ltb h 2147483648) refl
     go : (t : Bool) → ltb h 2147483648 ≡ t → absolute (pick t (plus h) (minus (4294967296 - h))) < 2147483648
     go true e = ltb-true h 2147483648 e
     go false e = least (eqb (4294967296 - h) 2147483648) refl (ltb-false h 2147483648 e)
-
-hash-lt : (h : ℕ) (us : List ℕ) → h < 4294967296 → hashFrom h us < 4294967296
-unfolding hashFrom
-hash-lt h [] k = k
-hash-lt h (u ∷ us) k = hash-lt ((31 * h + u) % 4294967296) us (omega arith)
 
 pub key-hash-small : KeyHashSmall
 unfolding keyHash

@@ -2,7 +2,6 @@
 use Prim.Native.Nat.{ℕ, _+_, _*_, _-_, _%_}
 use mathlib.Core.List.{List, [], _∷_, _++_}
 use lib.Dec.{ltb, eqb}
-use lib.ListN.{getD}
 use Rattle.codec.specs.Choice.{pick}
 
 -- "for each byte, taken as 0 to 255": what a string of bytes is hashed by
@@ -54,14 +53,3 @@ topicHash topic = hashFrom 0 (units topic ++ 35 ∷ [])
 
 unfoldable pub keyHash : ℕ → List ℕ → ℕ
 keyHash prefix key = absolute (signed (hashFrom prefix (units key)))
-
--- ---- eight bytes in one turn: what two, four and eight bytes at i add
-
-abbrev pub pairAt : List ℕ → ℕ → ℕ
-pairAt bytes i = 31 * getD bytes i 0 + getD bytes (i + 1) 0
-
-abbrev pub quadAt : List ℕ → ℕ → ℕ
-quadAt bytes i = 961 * pairAt bytes i + pairAt bytes (i + 2)
-
-abbrev pub octetAt : List ℕ → ℕ → ℕ
-octetAt bytes i = 923521 * quadAt bytes i + quadAt bytes (i + 4)

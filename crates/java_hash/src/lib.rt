@@ -2,44 +2,73 @@
 mod mul31;
 
 ghost use mathlib.Core.Path.{_≡_};
-ghost use Prim.Native.Nat.{_+_, _*_, _%_, _≤_, _<_};
+ghost use mathlib.Core.List.{[], _∷_};
+ghost use Prim.Native.Nat.{_+_, _*_, _%_, _^_, _≤_, _<_};
 ghost use lib.ListN.{length};
-ghost use Rattle.java_hash.specs.Hash.{units, hashFrom, signed, carried, absolute, tagCode, topicHash, keyHash, indexHash, slotOf, pairAt, quadAt, octetAt};
+ghost use Rattle.codec.specs.Bytes.{part};
+ghost use Rattle.java_hash.specs.Hash.{units, hashFrom, signed, carried, absolute, tagCode, topicHash, keyHash, indexHash, slotOf};
+
+// A byte as a unit: 0 to 255, never negative.
+fn unit(x: u8) -> u32
+    ensures { λ r. ⌜ (r ≡ x) × (r < 256) ⌝ }
+{
+    x as u32
+}
 
 // One unit more.
-fn step(h: u32, unit: u32) -> u32
-    ensures { λ r. ⌜ r ≡ (31 * h + unit) % 4294967296 ⌝ }
+fn step(h: u32, u: u32) -> u32
+    ensures { λ r. ⌜ r ≡ hashFrom h (u ∷ []) ⌝ }
 {
-    ((mul31::mul31(h) as u64 + unit as u64) % 4294967296) as u32
+    std::num::wrapping_add_u32(mul31::mul31(h), u)
 }
 
-fn pair(s: &[u8], i: usize) -> u64
+// Times 31 for each of two, four and eight bytes.
+fn mul31_2(h: u32) -> u32
+    ensures { λ r. ⌜ r ≡ 31 ^ 2 * h % 4294967296 ⌝ }
+{
+    mul31::mul31(mul31::mul31(h))
+}
+
+fn mul31_4(h: u32) -> u32
+    ensures { λ r. ⌜ r ≡ 31 ^ 4 * h % 4294967296 ⌝ }
+{
+    mul31_2(mul31_2(h))
+}
+
+fn mul31_8(h: u32) -> u32
+    ensures { λ r. ⌜ r ≡ 31 ^ 8 * h % 4294967296 ⌝ }
+{
+    mul31_4(mul31_4(h))
+}
+
+// The hash of two, four and eight bytes: that of the first half, times 31 for each byte of the second, and that of the second.
+fn pair(s: &[u8], i: usize) -> u32
     requires { ⌜ i + 2 ≤ length (now s) ⌝ }
-    ensures { λ r. ⌜ (r ≡ pairAt (now (s .entry)) i) × (r ≤ 8160) ⌝ }
+    ensures { λ r. ⌜ r ≡ hashFrom 0 (part 2 i (now (s .entry))) ⌝ }
 {
-    31 * codec::wide(s[i]) + codec::wide(s[i + 1])
+    std::num::wrapping_add_u32(mul31::mul31(unit(s[i])), unit(s[i + 1]))
 }
 
-fn quad(s: &[u8], i: usize) -> u64
+fn quad(s: &[u8], i: usize) -> u32
     requires { ⌜ i + 4 ≤ length (now s) ⌝ }
-    ensures { λ r. ⌜ (r ≡ quadAt (now (s .entry)) i) × (r ≤ 7849920) ⌝ }
+    ensures { λ r. ⌜ r ≡ hashFrom 0 (part 4 i (now (s .entry))) ⌝ }
 {
-    961 * pair(s, i) + pair(s, i + 2)
+    std::num::wrapping_add_u32(mul31_2(pair(s, i)), pair(s, i + 2))
 }
 
-fn octet(s: &[u8], i: usize) -> u64
+fn octet(s: &[u8], i: usize) -> u32
     requires { ⌜ i + 8 ≤ length (now s) ⌝ }
-    ensures { λ r. ⌜ (r ≡ octetAt (now (s .entry)) i) × (r ≤ 7249573818240) ⌝ }
+    ensures { λ r. ⌜ r ≡ hashFrom 0 (part 8 i (now (s .entry))) ⌝ }
 {
-    923521 * quad(s, i) + quad(s, i + 4)
+    std::num::wrapping_add_u32(mul31_4(quad(s, i)), quad(s, i + 4))
 }
 
-// Eight bytes more; 2487512833 is 31 to the 8th modulo 2^32.
+// Eight bytes more.
 fn step8(h: u32, s: &[u8], i: usize) -> u32
     requires { ⌜ i + 8 ≤ length (now s) ⌝ }
-    ensures { λ r. ⌜ r ≡ (2487512833 * h + octetAt (now (s .entry)) i) % 4294967296 ⌝ }
+    ensures { λ r. ⌜ r ≡ hashFrom h (part 8 i (now (s .entry))) ⌝ }
 {
-    ((2487512833 * (h as u64) + octet(s, i)) % 4294967296) as u32
+    std::num::wrapping_add_u32(mul31_8(h), octet(s, i))
 }
 
 // The hash h, continued over the bytes one by one.
@@ -49,7 +78,7 @@ fn hash_rest(start: u32, s: &[u8]) -> u32
     let mut h = start;
     let mut i: usize = 0;
     while i < s.len() {
-        h = step(h, s[i] as u32);
+        h = step(h, unit(s[i]));
         i += 1;
     }
     h

@@ -19,7 +19,7 @@ loop-holds : tie.Need-loop-holds Inv-loop μ-loop
 loop-holds c = (omega arith, turn0 _ (c .before .args .s .now))
 
 loop-again : tie.Need-loop-again Inv-loop μ-loop
-loop-again c = (omega arith, turn8 _ (c .before .before .before .before .args .s .now) _ _ _ (omega arith) (c .before .before .loop .inv .1) (c .step8 .ensures))
+loop-again c = (omega arith, turn8 _ (c .before .before .before .before .args .s .now) _ _ _ (c .before .before .loop .inv .1) (c .step8 .ensures))
 
 returns : tie.Need-returns Inv-loop μ-loop
 returns c = hash-parts _ _ _ _ (c .before .before .before .before .before .args .s .now) (c .before .before .before .loop .inv .1) (c .hash-rest .ensures)

@@ -1,6 +1,6 @@
 -- `java_hash::hash_rest` meets its contract: before each turn h is the hash continued over the first i bytes. Assumes nothing.
 use Prim.Native.Nat.{_≤_, _-_}
-use mathlib.Core.Path.{_≡_, refl}
+use mathlib.Core.Path.{_≡_}
 use native.Mathlib.Omega.{arith}
 use lib.ListN.{length, take}
 use Rattle.java_hash.specs.Hash.{units, hashFrom}
@@ -18,15 +18,12 @@ abbrev μ-loop : tie.MeasureT-loop
 loop-holds : tie.Need-loop-holds Inv-loop μ-loop
 loop-holds c = (omega arith, turn0 _ (c .before .args .s .now))
 
-cast-step : tie.Need-cast-step Inv-loop μ-loop
-cast-step c = omega (arith, c .shared-slice-known2 .given (c .before .before .loop .i))
-
 loop-again : tie.Need-loop-again Inv-loop μ-loop
-loop-again c = (omega arith, turn1 _ (c .before .before .before .before .before .args .s .now) _ _ _ _ (omega arith) (c .before .before .before .loop .inv .1) refl (c .step .ensures))
+loop-again c = (omega arith, turn1 _ (c .before .before .before .before .before .before .args .s .now) _ _ _ _ (omega arith) (c .before .before .before .before .loop .inv .1) (c .before .unit .ensures .0) (c .step .ensures))
 
 returns : tie.Need-returns Inv-loop μ-loop
 returns c = turned _ (c .before .before .before .args .s .now) (c .before .loop .i) _ (omega arith) (c .before .loop .inv .1)
 
 pub hash-rest-spec : {M : Type 1} → statement M
 hash-rest-spec =
-    tie.close (tie.spec Inv-loop μ-loop loop-holds (search needs) cast-step (search needs) (search needs) (search needs) loop-again returns)
+    tie.close (tie.spec Inv-loop μ-loop loop-holds (search needs) (search needs) (search needs) (search needs) (search needs) loop-again returns)

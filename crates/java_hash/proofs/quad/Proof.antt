@@ -1,0 +1,15 @@
+-- `java_hash::quad` meets its contract. Assumes nothing.
+use native.Mathlib.Omega.{arith}
+use Rattle.java_hash.proofs.HashLaws.{halves}
+use borrow.Author.Needs.{needs}
+use Rattle.java_hash.proofs.quad.Statement.{statement}
+use Rattle.java_hash.proofs.quad.Tie as tie
+
+returns : tie.Need-returns
+returns c =
+    halves (c .before .before .before .before .before .args .s .now) 2 2 (c .before .before .before .before .before .args .i) (omega arith)
+    (c .before .before .before .pair .ensures) (c .before .before .mul31-2 .ensures) (c .before .pair2 .ensures) (c .wrapping-add-u32 .ensures)
+
+pub quad-spec : {M : Type 1} → statement M
+quad-spec =
+    tie.close (tie.spec (search needs) (search needs) (search needs) (search needs) (search needs) returns)
