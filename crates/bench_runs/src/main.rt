@@ -5,7 +5,7 @@ ghost use Prim.Native.Nat.{_+_, _≤_};
 use commit_log::Geometry;
 use dispatch_step::Sizes;
 use index_file::IndexSizes;
-use index_file::Queried;
+use index_query::Queried;
 use record::Fields;
 use units::LogPosition;
 use units::QueueOffset;
@@ -44,7 +44,7 @@ fn ask(index: &[u8; 128], from: u64) -> Queried {
         item_count: 4,
     };
     let mut out = [0u64; 5];
-    index_file::query(index, sizes, b"T", b"k", from, 20000, 5, &mut out)
+    index_query::query(index, sizes, b"T", b"k", from, 20000, 5, &mut out)
 }
 
 fn run(from: u64, link: u32) {

@@ -13,13 +13,14 @@ use Rattle.record.specs.Record.{fieldsSound}
 use Rattle.commit_log.specs.Log.{geometryOk}
 use Rattle.consume_queue.specs.Queue.{entriesOk}
 use Rattle.index_file.specs.Index.{sizesOk}
-use Rattle.index_file.specs.History.{Empty, Put, build, All}
+use Rattle.index_file.specs.Items.{All}
+use Rattle.index_laws.specs.History.{Empty, Put, build}
 use Rattle.index_file.specs.Inner.{Sized}
-use Rattle.index_file.specs.Claims.{Built}
+use Rattle.index_laws.specs.Claims.{Built}
 use Rattle.index_file.proofs.Judged.{sizes-facts}
 use Rattle.index_file.proofs.Items.{checked-room, item-hashes-small}
-use Rattle.index_file.proofs.History.{fresh-empty, fresh-one, built-holds, put-built, filed-built, rising-times}
-use Rattle.index_file.proofs.Exact.{query-exact}
+use Rattle.index_laws.proofs.History.{fresh-empty, fresh-one, built-holds, put-built, filed-built, rising-times}
+use Rattle.index_laws.proofs.Exact.{query-exact}
 use Rattle.machine.specs.Steps.{Outcome, moved, stopped, andThen, walk}
 use Rattle.machine.specs.Calls.{total, final, Leads}
 use Rattle.machine.proofs.Steps.{moved-inj, never}

@@ -7,9 +7,9 @@ use mathlib.Core.Option.{some}
 use lib.ListN.{length, take}
 use Rattle.units.specs.declared.Answer.the-variants.{BudgetSpent}
 use Rattle.java_hash.specs.Hash.{indexHash}
-use Rattle.index_file.specs.Query.{wantedOf, queryOk, queried}
-use Rattle.index_file.specs.History.{Empty, items, SecondsRise, TimesRise, matches}
-use Rattle.index_file.specs.Claims.{Finds}
+use Rattle.index_query.specs.Query.{wantedOf, queryOk, queried}
+use Rattle.index_laws.specs.History.{Empty, items, SecondsRise, TimesRise, matches}
+use Rattle.index_query.specs.Claims.{Finds}
 use Rattle.machine.specs.Steps.{stopped}
 use Rattle.machine.specs.Calls.{Call, Report, Chain, total, final, passed, Steady, latest}
 use Rattle.machine.specs.Claims.{Resumed}

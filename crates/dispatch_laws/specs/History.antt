@@ -3,7 +3,7 @@ use Prim.Native.Nat.{ℕ, zero, suc}
 use mathlib.Core.List.{List}
 use Rattle.record.specs.declared.Entry.{Entry}
 use Rattle.record.specs.declared.Entry.the-variants.{Stop, Blank, Message}
-use Rattle.index_file.specs.History.{Put, filed}
+use Rattle.index_laws.specs.History.{Put, filed}
 use Rattle.machine.specs.Steps.{Outcome, moved, stopped}
 use Rattle.dispatch_step.specs.Step.{Fixed, View, State, entryHere, hashesOf, stepOf}
 

@@ -24,8 +24,7 @@ use Rattle.properties.specs.Finder.{scanned, valueOf}
 use Rattle.properties.specs.Keys.{keysFrom, keyPlaces}
 use Rattle.properties.proofs.Places.{keys-few}
 use Rattle.index_file.specs.Index.{lastPosition, filledSlots, usedCount, slotAt, slotValue, filledAfter, put}
-use Rattle.index_file.specs.Items.{isFound, uniqueKey, keysAt, keysIn, itemKeys, itemHashes, hashes, isAhead, isFull, badSlot, anyBadSlot, itemsAnswer, putAll}
-use Rattle.index_file.specs.History.{All}
+use Rattle.index_file.specs.Items.{isFound, uniqueKey, keysAt, keysIn, itemKeys, itemHashes, hashes, isAhead, isFull, badSlot, anyBadSlot, itemsAnswer, putAll, All}
 use Rattle.index_file.specs.Inner.{Room, itemsFit}
 use Rattle.index_file.specs.Claims.{ItemHashes, ItemHashesSmall, CheckedRoom, CheckedItems, PutAllSized, GoodSlotsStay, GoodSlotsPart}
 use Rattle.index_file.proofs.Puts.{length-put, used-put, filled-put, slot-same, slot-other}

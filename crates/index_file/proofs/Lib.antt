@@ -1,11 +1,6 @@
 pub mod Stores
 pub mod Puts
 pub mod Judged
-pub mod Walks
-pub mod Turns
 pub mod Items
 pub mod Listed
-pub mod Chain
-pub mod History
-pub mod Exact
 pub mod Headed

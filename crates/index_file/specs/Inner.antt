@@ -3,22 +3,13 @@ use Prim.Native.Nat.{ℕ, _+_, _*_, _<_, _≤_}
 use mathlib.Core.Path.{_≡_}
 use mathlib.Core.Bool.{Bool, not, _&&_, _||_}
 use mathlib.Core.List.{List, _++_}
-use lib.Dec.{eqb, leb, ltb}
+use lib.Dec.{eqb, leb}
 use lib.ListN.{length, take}
 use Rattle.codec.specs.Bytes.{overwrite}
 use Rattle.codec.specs.Choice.{pick}
 use Rattle.java_hash.specs.Hash.{slotOf}
-use Rattle.index_file.specs.declared.Item.{Item}
-use Rattle.index_file.specs.declared.Criteria.{Criteria}
-use Rattle.index_file.specs.declared.Verdict.{Verdict}
-use Rattle.index_file.specs.declared.Verdict.the-variants.{Damaged, Match, Early, Pass}
 use Rattle.index_file.specs.Index.{store, usedCount, filledSlots, slotAt, slotValue, itemAt, itemBytes}
-use Rattle.index_file.specs.Walk.{itemTime, hit, damaged}
 use Rattle.index_file.specs.Items.{itemKeys, hashes, isAhead}
-
--- what reading an item comes to
-unfoldable pub verdictOf : Criteria → Item → Verdict
-verdictOf q e = pick (damaged e) Damaged (pick (hit q e) Match (pick (ltb (itemTime q e) (q .begin)) Early Pass))
 
 -- an index of k slots and n places for items, with room for so many items
 pub record Room (k n : ℕ) (index : List ℕ) (items : ℕ) : Type 0 where

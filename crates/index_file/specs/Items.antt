@@ -75,3 +75,8 @@ itemsAnswer k n index position hs =
 unfoldable pub putAll : ℕ → ℕ → ℕ → List ℕ → List ℕ → List ℕ
 putAll k position time [] index = index
 putAll k position time (h ∷ hs) index = putAll k position time hs (put k h position time index)
+
+-- each of the listed
+abbrev pub All : {A : Type 0} → (A → Type 0) → List A → Type 0
+All P [] = Unit {0}
+All P (x ∷ xs) = P x × All P xs

@@ -11,8 +11,8 @@ use Rattle.commit_log.specs.declared.Appended.{Appended}
 use Rattle.commit_log.specs.Log as log
 use Rattle.consume_queue.specs.declared.QueueRead.{QueueRead}
 use Rattle.consume_queue.specs.Queue as queue
-use Rattle.index_file.specs.declared.Queried.{Queried}
-use Rattle.index_file.specs.Query as index
+use Rattle.index_query.specs.declared.Queried.{Queried}
+use Rattle.index_query.specs.Query as index
 use Rattle.listing.specs.declared.Listed.{Listed}
 use Rattle.listing.specs.Listing as lister
 use Rattle.machine.specs.Calls.{Call, call}

@@ -3,7 +3,7 @@ ghost use mathlib.Core.Path.{_≡_};
 ghost use mathlib.Core.List.{_∷_};
 ghost use Rattle.commit_log.specs.Log.{appended, entryIn};
 ghost use Rattle.consume_queue.specs.Queue.{queueRead};
-ghost use Rattle.index_file.specs.Query.{queried};
+ghost use Rattle.index_query.specs.Query.{queried};
 ghost use Rattle.listing.specs.Listing.{listing};
 ghost use Rattle.swistopal.specs.Interface.{position, offset, geometry, sizes, fields, tagAsked, append, readRecord, numbersFrom, stateIn, dispatch, readQueue, query, list};
 ghost use Rattle.machine.specs.Calls.{call};
@@ -248,7 +248,7 @@ pub extern "C" fn swistopal_query(
         slot_count,
         item_count,
     };
-    let made = index_file::query(index, sizes, topic, key, first_time, last_time, wanted, out);
+    let made = index_query::query(index, sizes, topic, key, first_time, last_time, wanted, out);
     let answer = made.answer;
     *counts = [made.found, made.read];
     answer.number()

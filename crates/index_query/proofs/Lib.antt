@@ -1,0 +1,4 @@
+pub mod Walks
+pub mod Judged
+pub mod Turns
+pub mod Doors

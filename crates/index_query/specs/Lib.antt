@@ -1,0 +1,4 @@
+pub mod Walk
+pub mod Query
+pub mod Inner
+pub mod Claims
