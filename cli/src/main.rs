@@ -6,6 +6,7 @@ mod args;
 mod check;
 mod demo;
 mod failure;
+mod form;
 mod help;
 mod index;
 mod journal;
@@ -20,9 +21,10 @@ mod query;
 mod queue;
 mod queues;
 mod rebuild;
-mod show;
+mod record;
 mod text;
 mod time;
+mod wanted;
 mod work;
 
 use args::Args;
@@ -52,8 +54,16 @@ const COMMANDS: [Command; 6] = [
     Command {
         name: "list",
         help: help::LIST,
-        flags: &["--json", "--long"],
-        values: &["--from", "--limit", "--segment-size", "--end"],
+        flags: &["--json", "--jsonl", "--long", "--resync"],
+        values: &[
+            "--from",
+            "--limit",
+            "--topic",
+            "--from-time",
+            "--to-time",
+            "--segment-size",
+            "--end",
+        ],
         run: list::run,
     },
     Command {

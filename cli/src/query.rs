@@ -5,26 +5,20 @@ use crate::failure::{fault, usage, Failure, Outcome};
 use crate::index::{self, Bytes, Index, Opened};
 use crate::log::{self, End, Log};
 use crate::properties::{has_items, Names};
-use crate::show::{self, With};
+use crate::record::{self, Read, With};
 use crate::text::{array, counted, shown, shown_path, string, Object};
 use crate::time;
 use crate::{note, out};
 use std::io::Write;
 use std::path::Path;
-use swistopal::{query, Answer, Entry, LogPosition, Message, Query};
+use swistopal::{query, Answer, Entry, LogPosition, Query};
 
 const DEFAULT_LIMIT: u64 = 32;
-
-struct Found<'a> {
-    position: LogPosition,
-    length: u64,
-    message: Message<'a>,
-}
 
 /// What the index names, told apart by what stands in the log.
 #[derive(Default)]
 struct Search<'a> {
-    found: Vec<Found<'a>>,
+    found: Vec<Read<'a>>,
     same_hash_only: u64,
     items_read: u64,
     faults: Vec<String>,
@@ -85,7 +79,7 @@ pub fn run(args: &Args) -> Result<Outcome, Failure> {
         let records: Vec<String> = search
             .found
             .iter()
-            .map(|found| show::object(found.position, found.length, &found.message, with_body))
+            .map(|found| record::object(found, with_body))
             .collect();
         let faults: Vec<String> = search.faults.iter().map(|text| string(text)).collect();
         let answer = Object::new()
@@ -104,9 +98,9 @@ pub fn run(args: &Args) -> Result<Outcome, Failure> {
             topic: false,
             body: with_body,
         };
-        show::heading(&mut out, with)?;
+        record::heading(&mut out, with)?;
         for found in &search.found {
-            show::line(&mut out, found.position, found.length, &found.message, with)?;
+            record::line(&mut out, found, with)?;
         }
     }
     out.flush()?;
@@ -234,10 +228,11 @@ impl<'a> Search<'a> {
                     if !carries {
                         self.same_hash_only += 1;
                     } else if (first_time..=last_time).contains(&message.store_time) {
-                        self.found.push(Found {
+                        self.found.push(Read {
                             position,
                             length,
                             message,
+                            behind: log.is_behind_a_fault(position),
                         });
                     }
                 }

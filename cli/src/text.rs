@@ -78,6 +78,7 @@ pub fn counted(number: u64, one: &str, many: &str) -> String {
 }
 
 /// One JSON object, field by field.
+#[derive(Clone)]
 pub struct Object(String);
 
 impl Object {
@@ -119,6 +120,20 @@ impl Object {
         let written = crate::time::rfc3339(time).map_or(String::from("null"), |text| string(&text));
         self.number(name, time)
             .raw(&format!("{name}_rfc3339"), &written)
+    }
+
+    /// With the fields of another one.
+    pub fn and(mut self, other: &Object) -> Object {
+        if self.0.len() > 1 && other.0.len() > 1 {
+            self.0.push(',');
+        }
+        self.0.push_str(&other.0[1..]);
+        self
+    }
+
+    /// What there is so far; its last value may be a list that is still to be written.
+    pub fn unclosed(self) -> String {
+        self.0
     }
 
     pub fn end(mut self) -> String {

@@ -105,7 +105,7 @@ fn what_the_log_lacks_is_told() {
     let folder = Folder::new("lacks");
     let store = built(&folder, "store");
     fs::remove_file(segment(&store, 65_536)).unwrap();
-    let lacks = "the segment at 65536 is missing before it; the log is read up to there";
+    let lacks = "the segment at 65536 is missing before it";
     for (command, found) in [("query", &PARCEL), ("queue", &TRIM)] {
         tool(command, &store, found).is(1, lacks);
         let json = tool(command, &store, &[&found[..], &["--json"]].concat()).json();
