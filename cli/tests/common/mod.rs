@@ -2,6 +2,7 @@
 #![allow(dead_code, reason = "each test uses a part")]
 
 pub mod broker;
+pub mod sites;
 
 use std::collections::BTreeMap;
 use std::fs;
