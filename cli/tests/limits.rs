@@ -215,7 +215,7 @@ fn what_is_older_than_the_log_is_no_fault() {
     let folder = Folder::new("normal-older");
     for (name, rolled) in [("one", false), ("rolled", true)] {
         let store = folder.join(name);
-        let broker = Broker::new(&store);
+        let broker = small(&store);
         let broker = match rolled {
             true => broker.slots(15).items(60),
             false => broker,

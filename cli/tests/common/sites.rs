@@ -67,8 +67,10 @@ impl Shift {
     }
 }
 
-fn small(store: &Path) -> Broker {
-    Broker::new(store).segment_size(SEGMENT as usize)
+/// A broker whose files are small, so that copies are quick.
+pub fn small(store: &Path) -> Broker {
+    let broker = Broker::new(store).segment_size(SEGMENT as usize);
+    broker.queue_entries(1000)
 }
 
 /// So many parcels of queue T/0.
@@ -76,6 +78,20 @@ fn parcels(broker: Broker, count: usize) -> Site {
     let mut shift = Shift::new(broker);
     for _ in 0..count {
         shift.parcel(Message {
+            tags: "left",
+            body: b"parcel",
+            ..Message::default()
+        });
+    }
+    shift.end()
+}
+
+/// So many parcels, by turns in T/0 and T/1.
+pub fn two_queues(broker: Broker, count: usize) -> Site {
+    let mut shift = Shift::new(broker);
+    for number in 0..count {
+        shift.parcel(Message {
+            queue_id: number as u32 % 2,
             tags: "left",
             body: b"parcel",
             ..Message::default()
@@ -160,7 +176,7 @@ pub fn up_to_the_last_end(store: &Path) -> Site {
 
 /// Old segments were removed: a topic that is wholly older than the log, and one that goes on.
 pub fn removed_segments(store: &Path, broker: Broker) -> Site {
-    let mut shift = Shift::new(broker.segment_size(SEGMENT as usize));
+    let mut shift = Shift::new(broker);
     for number in 0..200 {
         shift.parcel(Message {
             topic: if number < 10 { "OLD" } else { "T" },
@@ -195,7 +211,8 @@ pub fn just_rolled_index(store: &Path, abort: bool) -> Site {
 
 /// A queue whose first entry has a number above 0.
 pub fn later_queue(store: &Path, first_entry: u64) -> Site {
-    let broker = small(store).first_position(4 * SEGMENT);
+    let broker = small(store).queue_entries(300_000);
+    let broker = broker.first_position(4 * SEGMENT);
     parcels(broker.first_entry("T", 0, first_entry), 50)
 }
 
