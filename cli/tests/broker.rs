@@ -144,3 +144,72 @@ fn files_are_cut_and_named_as_a_broker_does() {
     );
     assert!(rolled[32..].iter().all(|byte| *byte == 0));
 }
+
+/// The record at a position of a store's first segment.
+fn bytes_at(store: &Path, put: Put) -> Vec<u8> {
+    let log = fs::read(segment(store, 0)).unwrap();
+    let from = put.position as usize;
+    log[from..from + put.length as usize].to_vec()
+}
+
+#[test]
+fn a_delayed_message_waits_in_a_topic_of_its_own() {
+    let folder = Folder::new("broker-delayed");
+    let mut broker = Broker::new(&folder.join("store"));
+    let put = broker.put(Message {
+        queue_id: 2,
+        tags: "left",
+        delay_level: 5,
+        ..Message::default()
+    });
+    let store = broker.finish();
+    let entry = fs::read(queue_file(&store, DELAYED, 4)).unwrap();
+    assert_eq!(entry[..8], put.position.to_be_bytes());
+    assert_eq!(entry[8..12], put.length.to_be_bytes());
+    assert_eq!(entry[12..20], (MORNING + 60_000).to_be_bytes());
+    let record = bytes_at(&store, put);
+    let properties = b"TAGS\x01left\x02DELAY\x015\x02REAL_TOPIC\x01T\x02REAL_QID\x012\x02";
+    assert!(record.ends_with(properties));
+    assert_eq!(record[12..16], 4u32.to_be_bytes());
+}
+
+#[test]
+fn a_host_has_8_or_20_bytes() {
+    let folder = Folder::new("broker-hosts");
+    let mut broker = Broker::new(&folder.join("store"));
+    let puts = [0, 16, 32, 48].map(|system_flag| {
+        broker.put(Message {
+            system_flag,
+            ..Message::default()
+        })
+    });
+    assert_eq!(puts.map(|put| put.length), [92, 104, 104, 116]);
+    let store = broker.finish();
+    for (put, stored) in puts.into_iter().zip([56, 68, 56, 68]) {
+        let record = bytes_at(&store, put);
+        assert_eq!(record[stored..stored + 8], MORNING.to_be_bytes());
+    }
+}
+
+#[test]
+fn a_blank_carries_what_the_buffer_had() {
+    let folder = Folder::new("broker-blank");
+    let mut broker = Broker::new(&folder.join("store")).segment_size(1024);
+    let put = broker.put(Message {
+        body: &[7; 400],
+        ..Message::default()
+    });
+    let next = broker.put(Message {
+        body: &[8; 500],
+        ..Message::default()
+    });
+    assert_eq!(next.position, 1024);
+    let store = broker.finish();
+    let log = fs::read(segment(&store, 0)).unwrap();
+    let blank = &log[put.length as usize..];
+    assert_eq!(blank.len(), 1024 - put.length as usize);
+    assert_eq!(blank[..4], (blank.len() as u32).to_be_bytes());
+    assert_eq!(blank[4..8], [0xcb, 0xd4, 0x31, 0x94]);
+    let record = bytes_at(&store, put);
+    assert_eq!(blank[8..record.len()], record[8..]);
+}
