@@ -4,6 +4,7 @@
 
 mod args;
 mod check;
+mod crc;
 mod demo;
 mod failure;
 mod form;
