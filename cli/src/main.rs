@@ -7,6 +7,7 @@ mod check;
 mod crc;
 mod demo;
 mod failure;
+mod files;
 mod form;
 mod help;
 mod index;
@@ -23,6 +24,7 @@ mod queue;
 mod queues;
 mod rebuild;
 mod record;
+mod shell;
 mod text;
 mod time;
 mod wanted;
@@ -117,7 +119,7 @@ const COMMANDS: [Command; 6] = [
     Command {
         name: "check",
         help: help::CHECK,
-        flags: &["--json"],
+        flags: &["--json", "--jsonl", "--bodies"],
         values: &["--queues", "--slots", "--segment-size", "--end"],
         run: check::run,
     },
