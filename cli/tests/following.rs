@@ -92,13 +92,20 @@ fn paths(folder: &Path) -> Vec<PathBuf> {
     found
 }
 
-/// The commands that a check names, as they stand there.
+/// The commands that a check names, as they stand there: up to the end of the line, or to the mark that closes it.
 fn named(check: &Run) -> Vec<String> {
     let lines = check.out.lines();
     let next = lines.filter(|line| line.starts_with("  next     "));
-    let calls = next.filter_map(|line| line.split_once("swistopal "));
-    let calls = calls.filter(|(said, _)| said.ends_with(": "));
-    calls.map(|(_, call)| format!("swistopal {call}")).collect()
+    let calls = next.filter_map(|line| {
+        let (said, call) = line.split_once("swistopal ")?;
+        let end = if said.ends_with('`') {
+            call.find('`')
+        } else {
+            None
+        };
+        Some(&call[..end.unwrap_or(call.len())])
+    });
+    calls.map(|call| format!("swistopal {call}")).collect()
 }
 
 /// A place where stores are tried, and where a shell finds the tool by its name.
@@ -285,6 +292,7 @@ fn on_healthy_stores() {
         preallocated,
         foreign_files,
         accents,
+        busy,
     ]
     .into_iter()
     .enumerate()
@@ -320,6 +328,9 @@ fn on_damaged_results() {
     for (name, harm) in RESULT_HARMS {
         let site = plain(&trial.store(name));
         harm(&site);
+        let check = tool("check", &site.store, &[]);
+        assert_eq!(check.status, i32::from(name != "none"), "{}", check.out);
+        assert!(name != "no-results" || named(&check).len() == 1);
         trial.follow(&site, &[]);
     }
 }
