@@ -225,6 +225,12 @@ impl Bytes<'_> {
         self.number::<8>(24).filter(|_| self.used() > 1)
     }
 
+    /// The store times of its first and its last record.
+    pub fn times(&self) -> Option<(u64, u64)> {
+        let times = (self.number::<8>(0)?, self.number::<8>(8)?);
+        (self.used() > 1).then_some(times)
+    }
+
     pub fn filled(&self) -> u64 {
         self.number::<4>(32).unwrap_or(0)
     }

@@ -7,7 +7,7 @@ use crate::log::{self, End, Log, Met, Place, Skipped, Why};
 use crate::note;
 use crate::record::{self, Read, With};
 use crate::text::{array, string, Object};
-use crate::wanted::Wanted;
+use crate::wanted::{seconds, Wanted};
 use std::io::Write;
 use swistopal::{Entry, LogPosition};
 
@@ -60,6 +60,7 @@ pub fn run(args: &Args) -> Result<Outcome, Failure> {
     } else if !end.sound() || end.why == Why::Zeros {
         note(&format!("the log {}", end.sentence()));
     }
+    log::tell(&seconds(args, &["--from-time", "--to-time"]));
     wanted.tell_if_none("the log");
     listing.tell();
     log::tell(&log.faults);

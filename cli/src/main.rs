@@ -88,10 +88,11 @@ const COMMANDS: [Command; 6] = [
     Command {
         name: "query",
         help: help::QUERY,
-        flags: &["--json", "--body"],
+        flags: &["--json", "--jsonl", "--body", "--scan"],
         values: &[
             "--topic",
             "--key",
+            "--unique-key",
             "--from",
             "--to",
             "--limit",

@@ -1,11 +1,12 @@
 //! A record, and a part of the log that cannot be read, as a line of text and as JSON.
 
-use crate::log::{Cause, Skipped};
+use crate::crc;
+use crate::log::{Cause, Log, Skipped};
 use crate::properties::Names;
 use crate::text::{array, of_bytes, shown, Object};
 use crate::time;
 use std::io::{self, Write};
-use swistopal::{Entry, LogPosition, Message};
+use swistopal::{Answer, Entry, LogPosition, Message};
 
 /// Text shows a body up to so many bytes; JSON has it whole.
 const BODY_SHOWN: usize = 4096;
@@ -73,8 +74,41 @@ pub fn line(out: &mut impl Write, read: &Read, with: With) -> io::Result<()> {
             let more = message.body.len() - start.len();
             writeln!(out, "    .. and {more} bytes more; --json has them")?;
         }
+        if let Some(differs) = checksum_differs(message) {
+            writeln!(out, "    ! {differs}")?;
+        }
     }
     Ok(())
+}
+
+/// How a body does not match the checksum that its record has.
+fn checksum_differs(message: &Message) -> Option<String> {
+    let (stored, computed) = (message.body_crc, crc::of_body(message.body));
+    (stored != computed).then(|| {
+        format!("the body does not match its checksum: the record has {stored:08x}, the body gives {computed:08x}")
+    })
+}
+
+/// The same as a fault.
+pub fn checksum_fault(read: &Read) -> Option<String> {
+    let differs = checksum_differs(&read.message)?;
+    Some(format!("the record at {}: {differs}", read.position.0))
+}
+
+/// Why no record is read at a position that an index or a queue names.
+pub fn not_read(log: &Log, position: LogPosition, answer: Answer) -> String {
+    if log.long_hosts(position).is_some() {
+        String::from("where a record with hosts of 20 bytes (IPv6) stands, which this tool does not read; that is no damage")
+    } else if (log.first()..log.files_end()).contains(&position) && !log.has(position) {
+        String::from("which no file of the log has that can be read")
+    } else {
+        let end = match position < log.files_end() {
+            true => String::new(),
+            false => format!("; its files end at {}", log.files_end().0),
+        };
+        let number = answer.number();
+        format!("where reading the log answers {number}: {answer}{end}")
+    }
 }
 
 /// The same as a JSON object.
@@ -98,7 +132,11 @@ pub fn object(read: &Read, with_body: bool) -> String {
         .raw("keys", &array(&keys))
         .truth("behind_damage", read.behind);
     if with_body {
-        object = object.bytes("body", message.body);
+        let sound = checksum_differs(message).is_none();
+        object = object
+            .bytes("body", message.body)
+            .number("body_checksum", message.body_crc.into())
+            .truth("body_checksum_matches", sound);
     }
     object.end()
 }

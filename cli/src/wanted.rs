@@ -8,6 +8,8 @@ use crate::time;
 use std::collections::BTreeSet;
 use swistopal::{Entry, Message};
 
+/// Digits in this range are seconds of the years 1973 to 5138, or milliseconds of 1970 to 1973.
+const LIKE_SECONDS: std::ops::Range<u64> = 100_000_000..100_000_000_000;
 /// Topics that a hint names at most.
 const NAMED: usize = 12;
 
@@ -37,6 +39,32 @@ pub fn times(args: &Args, from: &str, to: &str) -> Result<(u64, u64), Failure> {
     Ok(times)
 }
 
+/// What to say where milliseconds look like seconds.
+pub fn seconds(args: &Args, options: &[&str]) -> Vec<String> {
+    let mut hints = Vec::new();
+    for option in options {
+        let digits = args.value(option).and_then(|value| value.to_str());
+        let given = digits.and_then(crate::args::number);
+        if let Some(given) = given.filter(|given| LIKE_SECONDS.contains(given)) {
+            hints.push(format!(
+                "{option} {given} is {} in milliseconds; if seconds are meant, {}, it is {option} {given}000",
+                time::shown(given),
+                time::shown(given * 1000)
+            ));
+        }
+    }
+    hints
+}
+
+/// Takes the topic of what was read.
+pub fn add_topic(topics: &mut BTreeSet<Vec<u8>>, entry: &Entry) {
+    if let Entry::Record { message, .. } = entry {
+        if !topics.contains(message.topic) {
+            topics.insert(message.topic.to_vec());
+        }
+    }
+}
+
 impl<'a> Wanted<'a> {
     pub fn of(args: &'a Args, from: &str, to: &str) -> Result<Wanted<'a>, Failure> {
         let topic = match args.value("--topic") {
@@ -57,7 +85,10 @@ impl<'a> Wanted<'a> {
     pub fn takes(&mut self, entry: &Entry) -> bool {
         let takes = match entry {
             _ if !self.filters => true,
-            Entry::Record { message, .. } => self.takes_record(message),
+            Entry::Record { message, .. } => {
+                add_topic(&mut self.seen.topics, entry);
+                self.takes_record(message)
+            }
             Entry::Blank { .. } => false,
         };
         self.taken += u64::from(takes);
@@ -65,7 +96,7 @@ impl<'a> Wanted<'a> {
     }
 
     fn takes_record(&mut self, message: &Message) -> bool {
-        self.seen.add(message);
+        self.seen.add_time(message.store_time);
         let (first, last) = self.times;
         self.topic.is_none_or(|topic| topic == message.topic)
             && (first..=last).contains(&message.store_time)
@@ -89,11 +120,7 @@ impl<'a> Wanted<'a> {
 }
 
 impl Seen {
-    fn add(&mut self, message: &Message) {
-        if !self.topics.contains(message.topic) {
-            self.topics.insert(message.topic.to_vec());
-        }
-        let time = message.store_time;
+    fn add_time(&mut self, time: u64) {
         let (low, high) = self.times.unwrap_or((time, time));
         self.times = Some((low.min(time), high.max(time)));
     }

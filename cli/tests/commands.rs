@@ -26,7 +26,7 @@ fn help_and_usage() {
     bare(&["list", "x", "--limit"]).is(2, "--limit needs a value");
     bare(&["list", "x", "--json=1"]).is(2, "--json takes no value");
     bare(&["list", "x", "--limit", "1", "--limit", "2"]).is(2, "--limit is given twice");
-    bare(&["query", "x", "--key", "k"]).is(2, "--topic is needed");
+    bare(&["query", "x", "--key", "k"]).is(2, "x: there is no such folder");
     bare(&["query", "x", "--topic", "T"]).is(2, "--key is needed");
     bare(&["query", "x", "--topic", "T", "--key="]).is(2, "a topic has 1 to 127 bytes");
     bare(&["queue", "x", "--topic", "T"]).is(2, "--queue is needed");

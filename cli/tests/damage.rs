@@ -89,9 +89,10 @@ fn damage_in_the_log() {
         rebuild
             .is(1, "the log stops at 6696 with 10")
             .shows("steps     35, up to position 6696");
+        // The index ends at the damage now; the log behind it is looked through.
         tool("query", &store, &QUERY)
-            .is(1, "0 records")
-            .is(1, "from there on the log stops at 6696 with 10");
+            .is(1, "1 record of")
+            .is(1, "the log cannot be read from 6696 to 6888");
         assert_eq!(
             fs::read(segment(&store, 0)).unwrap(),
             before[Path::new("commitlog/00000000000000000000")]
@@ -231,7 +232,7 @@ fn folders_of_another_layout() {
     // Missing results.
     let store = stores.copy();
     fs::remove_dir_all(store.join("index")).unwrap();
-    tool("query", &store, &QUERY).is(1, "no index in it; `swistopal rebuild` makes one");
+    tool("query", &store, &QUERY).is(1, "no index in it");
     tool("check", &store, &[]).is(1, "missing  index: 1,294 items by the log");
     fs::remove_file(queue_file(&store, "SORTER_TRIM", 0)).unwrap();
     tool("check", &store, &[]).is(1, "missing  queue SORTER_TRIM/0: 20 entries by the log");

@@ -163,6 +163,12 @@ impl Log {
         self.stretch_before(position).long_hosts(position)
     }
 
+    /// Whether nothing follows a place that is not read but zeros, as far as its first bytes tell.
+    pub fn ends_at(&self, position: LogPosition) -> bool {
+        let last = &self.stretches[self.stretches.len() - 1];
+        position >= last.end || (last.has(position) && last.zeros_at(position))
+    }
+
     fn last_end(&self, position: LogPosition) -> End {
         let why = match position < self.files_end() {
             true => Why::Zeros,
