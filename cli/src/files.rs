@@ -3,7 +3,7 @@
 use crate::failure::Failure;
 use crate::text::shown_path;
 use std::fs::{self, File};
-use std::io::ErrorKind;
+use std::io::{self, ErrorKind};
 use std::os::unix::fs::FileTypeExt;
 use std::path::{Path, PathBuf};
 
@@ -28,8 +28,14 @@ impl Refused {
         Refused { sentence, unfit }
     }
 
-    fn unreadable(path: &Path, why: impl std::fmt::Display) -> Refused {
-        Refused::new(Unfit::Unreadable, format!("{}: {why}", shown_path(path)))
+    fn unreadable(doing: &str, path: &Path, error: io::Error) -> Refused {
+        let sentence = format!("cannot {doing} {}: {error}", shown_path(path));
+        Refused::new(Unfit::Unreadable, sentence)
+    }
+
+    fn no_file(path: &Path, what: &str) -> Refused {
+        let sentence = format!("{}: {what}", shown_path(path));
+        Refused::new(Unfit::Unreadable, sentence)
     }
 }
 
@@ -41,7 +47,7 @@ impl From<Refused> for Failure {
 
 /// Opens a file for reading, and tells its length. Opening a pipe would wait for its writer.
 pub fn open(path: &Path) -> Result<(File, u64), Refused> {
-    let cannot = |error| Refused::unreadable(path, format!("cannot be read: {error}"));
+    let cannot = |error| Refused::unreadable("open", path, error);
     let kind = fs::metadata(path).map_err(cannot)?.file_type();
     if !kind.is_file() {
         let what = if kind.is_dir() {
@@ -51,8 +57,8 @@ pub fn open(path: &Path) -> Result<(File, u64), Refused> {
         } else {
             "something else"
         };
-        let why = format!("{what} stands in the place of a file");
-        return Err(Refused::unreadable(path, why));
+        let what = format!("{what} stands in the place of a file");
+        return Err(Refused::no_file(path, &what));
     }
     let file = File::open(path).map_err(cannot)?;
     let length = file.metadata().map_err(cannot)?.len();
@@ -61,14 +67,13 @@ pub fn open(path: &Path) -> Result<(File, u64), Refused> {
 
 /// The paths in a folder, by name; none if it is not there.
 pub fn within(folder: &Path) -> Result<Vec<PathBuf>, Refused> {
-    let cannot = |error| Refused::unreadable(folder, format!("cannot be read: {error}"));
+    let cannot = |error| Refused::unreadable("read", folder, error);
     match fs::symlink_metadata(folder) {
         Err(error) if error.kind() == ErrorKind::NotFound => return Ok(Vec::new()),
         found => found.map_err(cannot)?,
     };
     if !fs::metadata(folder).map_err(cannot)?.is_dir() {
-        let why = "it should be a folder, and is none";
-        return Err(Refused::unreadable(folder, why));
+        return Err(Refused::no_file(folder, "a folder should stand there"));
     }
     let mut paths = Vec::new();
     for entry in fs::read_dir(folder).map_err(cannot)? {

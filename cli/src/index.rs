@@ -50,9 +50,16 @@ pub struct Opened {
     pub faults: Vec<String>,
 }
 
-/// Paths of the index files by name, which is by time: RocketMQ's names are a time's 17 digits, more from the year 10000 on.
-/// A backup or a note is no index.
+/// Paths of the index files by name, which is by time. A folder is none.
 pub fn paths(store: &Path) -> Result<Vec<PathBuf>, Refused> {
+    let mut paths = named(store)?;
+    // What cannot be asked is told when it is opened.
+    paths.retain(|path| path.metadata().map_or(true, |found| found.is_file()));
+    Ok(paths)
+}
+
+/// All that stands under an index's name: a time's 17 digits, more from the year 10000 on. A backup or a note is no index.
+pub fn named(store: &Path) -> Result<Vec<PathBuf>, Refused> {
     let mut paths = files::within(&store.join("index"))?;
     paths.retain(|path| {
         let name = path.file_name().unwrap_or_default().as_bytes();

@@ -29,7 +29,7 @@ impl Results {
             on_disk: Vec::new(),
             unreadable: None,
         };
-        match index::paths(args.place()) {
+        match index::named(args.place()) {
             Ok(paths) => {
                 for path in paths {
                     results.take(index::open(&path, slots)?);
