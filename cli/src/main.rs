@@ -3,6 +3,7 @@
 //! The archive does all reading, rebuilding and searching. This program finds, maps and lends files.
 
 mod args;
+mod broker;
 mod check;
 mod demo;
 mod failure;
@@ -11,6 +12,7 @@ mod index;
 mod journal;
 mod list;
 mod log;
+mod loss;
 mod map;
 mod medium;
 mod meter;
@@ -59,8 +61,15 @@ const COMMANDS: [Command; 6] = [
     Command {
         name: "rebuild",
         help: help::REBUILD,
-        flags: &["--json", "--force", "--restart"],
+        flags: &[
+            "--json",
+            "--force",
+            "--shorten",
+            "--restart",
+            "--after-crash",
+        ],
         values: &[
+            "--into",
             "--queues",
             "--budget",
             "--batch",
@@ -175,6 +184,10 @@ fn run() -> Result<Outcome, Failure> {
         )),
         other => other,
     })?;
+    // A rebuild refuses by itself, and the demo makes a new folder.
+    if !["demo", "rebuild"].contains(&command.name) {
+        broker::warn(args.place());
+    }
     (command.run)(&args)
 }
 
