@@ -1,6 +1,9 @@
 //! What the tests share: a folder of their own, the tool's runs, a checker of JSON, stores to damage.
 #![allow(dead_code, reason = "each test uses a part")]
 
+pub mod broker;
+pub mod sites;
+
 use std::collections::BTreeMap;
 use std::fs;
 use std::path::{Path, PathBuf};
