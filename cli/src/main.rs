@@ -3,6 +3,7 @@
 //! The archive does all reading, rebuilding and searching. This program finds, maps and lends files.
 
 mod args;
+mod broker;
 mod check;
 mod crc;
 mod demo;
@@ -14,6 +15,7 @@ mod index;
 mod journal;
 mod list;
 mod log;
+mod loss;
 mod map;
 mod medium;
 mod meter;
@@ -72,8 +74,15 @@ const COMMANDS: [Command; 6] = [
     Command {
         name: "rebuild",
         help: help::REBUILD,
-        flags: &["--json", "--force", "--restart"],
+        flags: &[
+            "--json",
+            "--force",
+            "--shorten",
+            "--restart",
+            "--after-crash",
+        ],
         values: &[
+            "--into",
             "--queues",
             "--budget",
             "--batch",
@@ -189,6 +198,10 @@ fn run() -> Result<Outcome, Failure> {
         )),
         other => other,
     })?;
+    // A rebuild refuses by itself, and the demo makes a new folder.
+    if !["demo", "rebuild"].contains(&command.name) {
+        broker::warn(args.place());
+    }
     (command.run)(&args)
 }
 

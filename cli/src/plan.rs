@@ -3,7 +3,7 @@
 use crate::args::{number, Args};
 use crate::failure::{fault, usage, Failure};
 use crate::index::{MOST_ITEMS, MOST_SLOTS};
-use crate::log::Log;
+use crate::log::{End, Log};
 use crate::queues::{self, Queue, MOST_ENTRIES, MOST_QUEUES};
 use crate::text::{grouped, of_shown, shown, shown_path};
 use crate::time;
@@ -147,6 +147,16 @@ impl Rows {
 impl Plan {
     /// For a new rebuild. Without sizes RocketMQ's own are taken, so that a broker can read the files; they are sparse.
     pub fn new(log: &Log, sizes: &Sizes, listed: Option<Vec<Queue>>) -> Result<Plan, Refusal> {
+        Plan::with_end(log, sizes, listed, |_| {}).map(|(plan, _)| plan)
+    }
+
+    /// The same, with the end of the log, which is read once for both; `shown` is told how far.
+    pub fn with_end(
+        log: &Log,
+        sizes: &Sizes,
+        listed: Option<Vec<Queue>>,
+        mut shown: impl FnMut(LogPosition),
+    ) -> Result<(Plan, End), Refusal> {
         let entries = QueueEntries(sizes.entries.unwrap_or(MOST_ENTRIES));
         let derive = listed.is_none();
         let start = QueueOffset(0);
@@ -163,6 +173,7 @@ impl Plan {
         let mut reached = log.first();
         let walked = log.walk(log.first(), |position, entry| {
             reached = position;
+            shown(position);
             if let Entry::Record { message, .. } = entry {
                 first_time.get_or_insert(message.store_time);
                 if makes_entry(message.system_flag) {
@@ -171,10 +182,13 @@ impl Plan {
             }
             Ok(true)
         });
-        if let Err(why) = walked {
-            let before = rows.seen.contains(&true).then_some(reached);
-            return Err(Refusal { why, before });
-        }
+        let end = match walked {
+            Ok(end) => end,
+            Err(why) => {
+                let before = rows.seen.contains(&true).then_some(reached);
+                return Err(Refusal { why, before });
+            }
+        };
         if rows.rows.is_empty() {
             let why = "no record of the log belongs to a queue: there is nothing to rebuild";
             return Err(Refusal {
@@ -182,7 +196,7 @@ impl Plan {
                 before: None,
             });
         }
-        Ok(Plan {
+        let plan = Plan {
             log: log.geometry,
             entries,
             index: IndexGeometry {
@@ -191,7 +205,8 @@ impl Plan {
             },
             index_name: time::file_name(first_time.unwrap_or(0)),
             rows: rows.rows,
-        })
+        };
+        Ok((plan, end))
     }
 
     /// Whether a rebuild under way is the one that is asked for now.
