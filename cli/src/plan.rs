@@ -146,11 +146,7 @@ impl Rows {
 
 impl Plan {
     /// For a new rebuild. Without sizes RocketMQ's own are taken, so that a broker can read the files; they are sparse.
-    pub fn new(log: &Log, sizes: &Sizes, listed: Option<Vec<Queue>>) -> Result<Plan, Refusal> {
-        Plan::with_end(log, sizes, listed, |_| {}).map(|(plan, _)| plan)
-    }
-
-    /// The same, with the end of the log, which is read once for both; `shown` is told how far.
+    /// The log's end comes with it, as it is read once for both; `shown` is told how far.
     pub fn with_end(
         log: &Log,
         sizes: &Sizes,

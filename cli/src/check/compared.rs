@@ -87,7 +87,7 @@ impl<'a> Comparer<'a> {
             sides: self.sides(),
             merge: Merge::new(self.log, self.reach, &self.results.indexes),
             maker: Maker::new(),
-            meter: Meter::new(self.log.first().0, self.log.files_end().0),
+            meter: Meter::new("comparing", self.log.first().0, self.log.files_end().0),
             steps: 0,
             passed: 0,
             refused: None,

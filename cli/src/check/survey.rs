@@ -115,7 +115,7 @@ pub fn walk(log: &Log, made: Option<Made>, judge_bodies: bool) -> Result<Survey,
             bodies: judge_bodies.then(Bodies::default),
             made,
         },
-        meter: Meter::new(log.first().0, log.files_end().0),
+        meter: Meter::new("reading", log.first().0, log.files_end().0),
         steps: 0,
         block: log.first().0 + BLOCK,
     };
