@@ -62,7 +62,8 @@ impl Claim {
                 at_work(&folder)
             }
             Err(error) => fault(format!(
-                "cannot create {}: {error}; a rebuild works where its results go: --into names another folder for them",
+                "cannot create {}: {error}; a rebuild works where its results go: name another folder with --into, or copy \
+                 the store to where it can be written",
                 shown_path(folder)
             )),
         }
