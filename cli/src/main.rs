@@ -5,8 +5,11 @@
 mod args;
 mod broker;
 mod check;
+mod crc;
 mod demo;
 mod failure;
+mod files;
+mod form;
 mod help;
 mod index;
 mod journal;
@@ -22,9 +25,11 @@ mod query;
 mod queue;
 mod queues;
 mod rebuild;
-mod show;
+mod record;
+mod shell;
 mod text;
 mod time;
+mod wanted;
 mod work;
 
 use args::Args;
@@ -54,8 +59,16 @@ const COMMANDS: [Command; 6] = [
     Command {
         name: "list",
         help: help::LIST,
-        flags: &["--json", "--long"],
-        values: &["--from", "--limit", "--segment-size", "--end"],
+        flags: &["--json", "--jsonl", "--long", "--resync"],
+        values: &[
+            "--from",
+            "--limit",
+            "--topic",
+            "--from-time",
+            "--to-time",
+            "--segment-size",
+            "--end",
+        ],
         run: list::run,
     },
     Command {
@@ -84,10 +97,11 @@ const COMMANDS: [Command; 6] = [
     Command {
         name: "query",
         help: help::QUERY,
-        flags: &["--json", "--body"],
+        flags: &["--json", "--jsonl", "--body", "--scan"],
         values: &[
             "--topic",
             "--key",
+            "--unique-key",
             "--from",
             "--to",
             "--limit",
@@ -115,7 +129,7 @@ const COMMANDS: [Command; 6] = [
     Command {
         name: "check",
         help: help::CHECK,
-        flags: &["--json"],
+        flags: &["--json", "--jsonl", "--bodies"],
         values: &["--queues", "--slots", "--segment-size", "--end"],
         run: check::run,
     },

@@ -40,15 +40,6 @@ pub struct Sizes {
 }
 
 impl Sizes {
-    /// RocketMQ's queue files, and an index of these sizes.
-    pub fn with_index(index: IndexGeometry) -> Sizes {
-        Sizes {
-            entries: None,
-            slots: Some(index.slots),
-            items: Some(index.items),
-        }
-    }
-
     pub fn of(args: &Args) -> Result<Sizes, Failure> {
         Ok(Sizes {
             entries: args.number_within("--entries", 1, MOST_ENTRIES)?,
@@ -62,16 +53,7 @@ impl Sizes {
 pub struct Refusal {
     why: Failure,
     /// The record that cannot be taken, if one before it can.
-    pub before: Option<LogPosition>,
-}
-
-impl Refusal {
-    pub fn why(&self) -> Result<&str, Failure> {
-        match &self.why {
-            Failure::Usage(why) | Failure::Fault(why) => Ok(why),
-            Failure::Unread => Err(Failure::Unread),
-        }
-    }
+    before: Option<LogPosition>,
 }
 
 impl From<Refusal> for Failure {
@@ -348,6 +330,6 @@ impl Plan {
 }
 
 /// Transaction type none or commit.
-fn makes_entry(system_flag: u32) -> bool {
+pub fn makes_entry(system_flag: u32) -> bool {
     matches!(system_flag & 12, 0 | 8)
 }

@@ -54,6 +54,17 @@ pub fn bare(words: &[&str]) -> Run {
     of(Command::new(TOOL).args(words).output().unwrap())
 }
 
+/// What a shell makes of a command that the tool names.
+pub fn shell(command: &str) -> Run {
+    let folder = Path::new(TOOL).parent().expect("the tool is in a folder");
+    let mut paths = vec![folder.to_path_buf()];
+    paths.extend(std::env::split_paths(&std::env::var_os("PATH").unwrap()));
+    let mut call = Command::new("bash");
+    call.args(["-c", command]);
+    call.env("PATH", std::env::join_paths(paths).unwrap());
+    of(call.output().unwrap())
+}
+
 fn of(output: Output) -> Run {
     Run {
         status: output.status.code().expect("the tool ends by itself"),
