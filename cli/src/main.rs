@@ -154,6 +154,7 @@ fn print(text: &str) -> Result<Outcome, Failure> {
 }
 
 fn main() -> ExitCode {
+    medium::ignore_size_signal();
     match run() {
         Ok(Outcome::Sound) | Err(Failure::Unread) => ExitCode::SUCCESS,
         Ok(Outcome::Fault) => ExitCode::from(1),

@@ -260,7 +260,10 @@ impl Draft {
     pub fn settle(&mut self, file: &File, bytes: Range<u64>) -> io::Result<()> {
         let page = page_size();
         let (from, to) = (bytes.start / page * page, bytes.end / page * page);
-        let (from, length) = (from as usize, to.saturating_sub(from) as usize);
+        if to <= from {
+            return Ok(());
+        }
+        let (from, length) = (from as usize, (to - from) as usize);
         let (protection, file) = (PROT_READ | PROT_WRITE, Some((file, from)));
         self.0.place(from, length, protection, file)
     }

@@ -62,7 +62,8 @@ impl Claim {
                 at_work(&folder)
             }
             Err(error) => fault(format!(
-                "cannot create {}: {error}; a rebuild works where its results go: --into names another folder for them",
+                "cannot create {}: {error}; a rebuild works where its results go: name another folder with --into, or copy \
+                 the store to where it can be written",
                 shown_path(folder)
             )),
         }
@@ -668,9 +669,11 @@ pub fn plan_under_way(store: &Path) -> Result<Option<Plan>, Failure> {
     }
 }
 
-/// A folder of ours has the lock, or nothing if it was cut right at its beginning or its end.
+/// A folder of ours has the lock, or nothing if it was cut right at its beginning or its end. Another rebuild may begin or end
+/// while this is looked at, so it is looked at again.
 fn ask_for_lock(folder: &Path) -> Result<(), Failure> {
-    if folder.join(LOCK).exists() || empty(folder) {
+    let ours = || folder.join(LOCK).exists() || empty(folder) || !is_there(folder);
+    if (0..3).any(|_| ours()) {
         return Ok(());
     }
     usage(format!(
