@@ -130,7 +130,7 @@ const COMMANDS: [Command; 6] = [
         name: "check",
         help: help::CHECK,
         flags: &["--json", "--jsonl", "--bodies"],
-        values: &["--queues", "--slots", "--segment-size", "--end"],
+        values: &["--queues", "--slots", "--items", "--segment-size", "--end"],
         run: check::run,
     },
 ];
