@@ -86,6 +86,17 @@ Shows the records of one queue in order, each one read back from the log.
   --end POSITION, --segment-size S   as for list
 ";
 
+pub const SHOW: &str = "\
+swistopal show DIR|FILE POSITION [--raw] [--json]
+
+Shows one record whole: every field, hosts as addresses, properties as a table, tags, keys, whether the body matches its
+checksum, and the body as text or, where it is none, as hexadecimal digits. A position inside a record shows that record.
+
+  --raw                the body's bytes alone
+  --json               one object
+  --end POSITION, --segment-size S   as for list
+";
+
 pub const CHECK: &str = "\
 swistopal check DIR [--queues FILE] [--slots K] [--json]
 
