@@ -10,7 +10,7 @@ _swistopal() {
     case ${COMP_WORDS[1]} in
         demo) options='--help' ;;
         list) options='--from --limit --long --json --end --segment-size --help' ;;
-        rebuild) options='--queues --budget --batch --entries --slots --items --force --restart --json --end --segment-size --help' ;;
+        rebuild) options='--into --force --shorten --after-crash --queues --budget --batch --entries --slots --items --restart --json --end --segment-size --help' ;;
         query) options='--topic --key --from --to --limit --body --json --slots --end --segment-size --help' ;;
         queue) options='--topic --queue --start --limit --tag --body --json --end --segment-size --help' ;;
         check) options='--queues --slots --json --end --segment-size --help' ;;
@@ -20,6 +20,11 @@ _swistopal() {
         --queues)
             compopt -o filenames 2> /dev/null
             mapfile -t COMPREPLY < <(compgen -f -- "$word")
+            return
+            ;;
+        --into)
+            compopt -o filenames 2> /dev/null
+            mapfile -t COMPREPLY < <(compgen -d -- "$word")
             return
             ;;
         --topic)
@@ -36,7 +41,7 @@ _swistopal() {
             done
             return
             ;;
-        --json | --long | --body | --force | --restart | --help) ;;
+        --json | --long | --body | --force | --shorten | --after-crash | --restart | --help) ;;
         --*) return ;;
     esac
     if [[ $word == -* ]]; then

@@ -2,12 +2,14 @@
 
 use crate::args::Args;
 use crate::failure::{usage, Failure, Outcome};
-use crate::log::{self, Log, Why};
-use crate::show::{self, With};
-use crate::text::Object;
-use crate::{note, out};
+use crate::form::{Form, Results};
+use crate::log::{self, End, Log, Met, Place, Skipped, Why};
+use crate::note;
+use crate::record::{self, Read, With};
+use crate::text::{array, string, Object};
+use crate::wanted::{seconds, Wanted};
 use std::io::Write;
-use swistopal::{Answer, Entry, LogPosition};
+use swistopal::{Entry, LogPosition};
 
 const LONG: With = With {
     topic: true,
@@ -15,77 +17,213 @@ const LONG: With = With {
 };
 
 pub fn run(args: &Args) -> Result<Outcome, Failure> {
-    let log = Log::open(args)?;
-    let from = args.number("--from")?.map_or(log.first(), LogPosition);
-    if !(log.first()..=log.end()).contains(&from) {
-        return usage(format!(
-            "--from {}: the log's files go from {} to {}",
-            from.0,
-            log.first().0,
-            log.end().0
-        ));
-    }
     let limit = args.number("--limit")?.unwrap_or(u64::MAX);
-    let (json, long) = (args.flag("--json"), args.flag("--long"));
-    let mut out = out();
-    match (json, long) {
-        (true, _) => write!(out, "{{\"entries\":[")?,
-        (_, true) => show::heading(&mut out, LONG)?,
-        _ => writeln!(out, "position length queue time")?,
-    }
-    let mut lines = 0;
-    let end = log.walk(from, |position, entry| {
-        if lines == limit {
-            return Ok(false);
-        }
-        if json {
-            let text = match entry {
-                Entry::Record { length, message } => {
-                    show::object(position, *length, message, false)
+    let mut wanted = Wanted::of(args, "--from-time", "--to-time")?;
+    let log = match args.place().as_os_str() == "-" {
+        true => Log::of_input(args)?,
+        false => Log::open(args)?,
+    };
+    let resync = args.flag("--resync");
+    let from = start(args, &log, resync)?;
+    let mut listing = Listing::start(args)?;
+    let mut cut = false;
+    let mut stopped = false;
+    let mut end = log.walk_on(from, |met| {
+        match met {
+            Met::Entry { behind: true, .. } if !resync => stopped = true,
+            Met::Entry {
+                position,
+                entry,
+                behind,
+            } => {
+                if wanted.takes(&entry) {
+                    cut = listing.entries == limit;
+                    if !cut {
+                        listing.entry(position, &entry, behind)?;
+                    }
                 }
-                Entry::Blank { length } => Object::new()
-                    .number("position", position.0)
-                    .number("length", *length)
-                    .truth("blank", true)
-                    .end(),
-            };
-            write!(out, "{}\n{text}", if lines == 0 { "" } else { "," })?;
-        } else {
-            match entry {
-                Entry::Record { length, message } if long => {
-                    show::line(&mut out, position, *length, message, LONG)?
-                }
-                Entry::Record { length, message } => writeln!(
-                    out,
-                    "{} {length} {} {}",
-                    position.0, message.queue_id, message.store_time
-                )?,
-                Entry::Blank { length } => writeln!(out, "{} {length} blank", position.0)?,
             }
+            Met::Skipped(skipped) if resync || !skipped.is_damage() => listing.skipped(&skipped)?,
+            Met::Skipped(_) => stopped = true,
         }
-        lines += 1;
-        Ok(true)
+        Ok(!cut && !stopped)
     })?;
-    if json {
-        let tail = Object::new()
-            .number("stop", end.answer.number().into())
-            .text("sentence", &end.answer.to_string())
-            .number("end", end.position.0)
-            .end();
-        writeln!(out, "\n],{}", &tail[1..])?;
-    } else {
-        writeln!(out, "stop {}", end.answer.number())?;
+    if stopped {
+        end = log.walk(end.position, |_, _| Ok(true))?;
     }
-    out.flush()?;
-
-    let limited = end.answer == Answer::BudgetSpent;
-    if !end.sound() || end.why == Why::Zeros {
+    listing.end(&log, &end, cut)?;
+    if cut {
+        let next = end.position.0;
+        note(&format!(
+            "cut at --limit {limit}: more follow; --from {next} goes on"
+        ));
+    } else if !end.sound() || end.why == Why::Zeros {
         note(&format!("the log {}", end.sentence()));
     }
+    log::tell(&seconds(args, &["--from-time", "--to-time"]));
+    wanted.tell_if_none("the log");
+    listing.tell();
     log::tell(&log.faults);
-    if (end.sound() || limited) && log.faults.is_empty() {
-        Ok(Outcome::Sound)
+    log::tell(&log.limits);
+    let sound = (end.sound() || cut) && log.faults.is_empty() && !listing.damaged();
+    Ok(if sound {
+        Outcome::Sound
     } else {
-        Ok(Outcome::Fault)
+        Outcome::Fault
+    })
+}
+
+fn mark(behind: bool) -> &'static str {
+    match behind {
+        true => " behind-damage",
+        false => "",
+    }
+}
+
+/// Where to start. Inside a record is no place to start at.
+fn start(args: &Args, log: &Log, resync: bool) -> Result<LogPosition, Failure> {
+    let Some(from) = args.number("--from")? else {
+        return Ok(log.first());
+    };
+    let (first, end) = (log.first().0, log.files_end().0);
+    if !(first..=end).contains(&from) {
+        return usage(format!(
+            "--from {from}: the log's files go from {first} to {end}"
+        ));
+    }
+    let from = LogPosition(from);
+    match log.place(from)? {
+        Place::Entry { position, entry } if position < from => {
+            let next = position.0 + entry.length();
+            usage(format!(
+                "--from {}: it is inside the {}, which goes from {} to {next}; start at one of these",
+                from.0,
+                record::kind(&entry),
+                position.0
+            ))
+        }
+        Place::Skipped(skipped) if skipped.from < from && !resync => usage(format!(
+            "--from {}: it is inside a part that cannot be read, {}; --resync goes on behind it",
+            from.0,
+            skipped.sentence()
+        )),
+        _ => Ok(from),
+    }
+}
+
+/// What has been listed so far.
+struct Listing {
+    results: Results,
+    long: bool,
+    entries: u64,
+    skipped: Vec<Skipped>,
+}
+
+impl Listing {
+    fn start(args: &Args) -> Result<Listing, Failure> {
+        let long = args.flag("--long");
+        let mut results = Results::start(Form::of(args)?, Object::new(), "entries")?;
+        match (results.is_text(), long) {
+            (true, true) => record::heading(results.text(), LONG)?,
+            (true, false) => writeln!(results.text(), "position length queue time")?,
+            (false, _) => {}
+        }
+        Ok(Listing {
+            results,
+            long,
+            entries: 0,
+            skipped: Vec::new(),
+        })
+    }
+
+    fn entry(&mut self, position: LogPosition, entry: &Entry, behind: bool) -> Result<(), Failure> {
+        self.entries += 1;
+        match *entry {
+            Entry::Record { length, message } => self.record(&Read {
+                position,
+                length,
+                message,
+                behind,
+            }),
+            Entry::Blank { length } => self.blank(position, length, behind),
+        }
+    }
+
+    fn record(&mut self, read: &Read) -> Result<(), Failure> {
+        if !self.results.is_text() {
+            return self.results.add(&record::object(read, false));
+        }
+        let text = self.results.text();
+        if self.long {
+            record::line(text, read, LONG)?;
+        } else {
+            let (LogPosition(position), length) = (read.position, read.length);
+            let (queue, time) = (read.message.queue_id, read.message.store_time);
+            let mark = mark(read.behind);
+            writeln!(text, "{position} {length} {queue} {time}{mark}")?;
+        }
+        Ok(())
+    }
+
+    fn blank(&mut self, position: LogPosition, length: u64, behind: bool) -> Result<(), Failure> {
+        if self.results.is_text() {
+            let (LogPosition(position), mark) = (position, mark(behind));
+            writeln!(self.results.text(), "{position} {length} blank{mark}")?;
+            return Ok(());
+        }
+        let blank = Object::new()
+            .number("position", position.0)
+            .number("length", length)
+            .truth("blank", true)
+            .truth("behind_damage", behind);
+        self.results.add(&blank.end())
+    }
+
+    fn skipped(&mut self, skipped: &Skipped) -> Result<(), Failure> {
+        self.skipped.push(*skipped);
+        if !self.results.is_text() {
+            return self.results.add(&record::skipped_object(skipped));
+        }
+        writeln!(self.results.text(), "{}", record::skipped_line(skipped))?;
+        Ok(())
+    }
+
+    fn damaged(&self) -> bool {
+        self.skipped.iter().any(Skipped::is_damage)
+    }
+
+    fn end(&mut self, log: &Log, end: &End, cut: bool) -> Result<(), Failure> {
+        let faults: Vec<String> = log.faults.iter().map(|text| string(text)).collect();
+        let damage = || self.skipped.iter().filter(|skipped| skipped.is_damage());
+        let sentence = match cut {
+            true => String::from("cut at --limit"),
+            false => end.answer.to_string(),
+        };
+        let tail = Object::new()
+            .number("stop", end.answer.number().into())
+            .text("sentence", &sentence)
+            .number("end", end.position.0)
+            .truth("more", cut)
+            .number("damaged_parts", damage().count() as u64)
+            .number("damaged_bytes", damage().map(Skipped::bytes).sum())
+            .raw("faults", &array(&faults));
+        if self.results.is_text() {
+            let text = self.results.text();
+            match cut {
+                true => writeln!(text, "stop limit")?,
+                false => writeln!(text, "stop {}", end.answer.number())?,
+            }
+        }
+        self.results.end(tail)
+    }
+
+    fn tell(&self) {
+        for skipped in &self.skipped {
+            let sentence = skipped.sentence();
+            match skipped.is_damage() {
+                true => note(&format!("passed over: {sentence}")),
+                false => note(&format!("left out: {sentence}")),
+            }
+        }
     }
 }

@@ -3,14 +3,19 @@
 //! The archive does all reading, rebuilding and searching. This program finds, maps and lends files.
 
 mod args;
+mod broker;
 mod check;
+mod crc;
 mod demo;
 mod failure;
+mod files;
+mod form;
 mod help;
 mod index;
 mod journal;
 mod list;
 mod log;
+mod loss;
 mod map;
 mod medium;
 mod meter;
@@ -20,9 +25,11 @@ mod query;
 mod queue;
 mod queues;
 mod rebuild;
-mod show;
+mod record;
+mod shell;
 mod text;
 mod time;
+mod wanted;
 mod work;
 
 use args::Args;
@@ -52,15 +59,30 @@ const COMMANDS: [Command; 6] = [
     Command {
         name: "list",
         help: help::LIST,
-        flags: &["--json", "--long"],
-        values: &["--from", "--limit", "--segment-size", "--end"],
+        flags: &["--json", "--jsonl", "--long", "--resync"],
+        values: &[
+            "--from",
+            "--limit",
+            "--topic",
+            "--from-time",
+            "--to-time",
+            "--segment-size",
+            "--end",
+        ],
         run: list::run,
     },
     Command {
         name: "rebuild",
         help: help::REBUILD,
-        flags: &["--json", "--force", "--restart"],
+        flags: &[
+            "--json",
+            "--force",
+            "--shorten",
+            "--restart",
+            "--after-crash",
+        ],
         values: &[
+            "--into",
             "--queues",
             "--budget",
             "--batch",
@@ -75,10 +97,11 @@ const COMMANDS: [Command; 6] = [
     Command {
         name: "query",
         help: help::QUERY,
-        flags: &["--json", "--body"],
+        flags: &["--json", "--jsonl", "--body", "--scan"],
         values: &[
             "--topic",
             "--key",
+            "--unique-key",
             "--from",
             "--to",
             "--limit",
@@ -106,8 +129,8 @@ const COMMANDS: [Command; 6] = [
     Command {
         name: "check",
         help: help::CHECK,
-        flags: &["--json"],
-        values: &["--queues", "--slots", "--segment-size", "--end"],
+        flags: &["--json", "--jsonl", "--bodies"],
+        values: &["--queues", "--slots", "--items", "--segment-size", "--end"],
         run: check::run,
     },
 ];
@@ -131,6 +154,7 @@ fn print(text: &str) -> Result<Outcome, Failure> {
 }
 
 fn main() -> ExitCode {
+    medium::ignore_size_signal();
     match run() {
         Ok(Outcome::Sound) | Err(Failure::Unread) => ExitCode::SUCCESS,
         Ok(Outcome::Fault) => ExitCode::from(1),
@@ -175,6 +199,10 @@ fn run() -> Result<Outcome, Failure> {
         )),
         other => other,
     })?;
+    // A rebuild refuses by itself, and the demo makes a new folder.
+    if !["demo", "rebuild"].contains(&command.name) {
+        broker::warn(args.place());
+    }
     (command.run)(&args)
 }
 

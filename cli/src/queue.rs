@@ -4,7 +4,7 @@ use crate::args::Args;
 use crate::failure::{fault, usage, Failure, Outcome};
 use crate::log::{self, Log};
 use crate::queues::{self, Queue, QueueFile};
-use crate::show::{self, With};
+use crate::record::{self, Read, With};
 use crate::text::{array, counted, shown, shown_path, string, Object};
 use crate::{note, out};
 use std::io::Write;
@@ -78,15 +78,21 @@ pub fn run(args: &Args) -> Result<Outcome, Failure> {
             Ok(Entry::Record { length, message })
                 if message.topic == topic && u64::from(message.queue_id) == id =>
             {
+                let read = Read {
+                    position,
+                    length,
+                    message,
+                    behind: log.is_behind_a_fault(position),
+                };
                 if json {
                     let comma = if shown_records == 0 { "" } else { "," };
-                    let record = show::object(position, length, &message, body);
+                    let record = record::object(&read, body);
                     write!(out, "{comma}\n{record}")?;
                 } else {
                     if shown_records == 0 {
-                        show::heading(&mut out, with)?;
+                        record::heading(&mut out, with)?;
                     }
-                    show::line(&mut out, position, length, &message, with)?;
+                    record::line(&mut out, &read, with)?;
                 }
                 shown_records += 1;
             }

@@ -1,0 +1,161 @@
+//! Which records are wanted, by topic and store time; and what to say if there are none.
+
+use crate::args::Args;
+use crate::failure::{usage, Failure};
+use crate::note;
+use crate::text::{counted, shown};
+use crate::time;
+use std::collections::BTreeSet;
+use swistopal::{Entry, Message};
+
+/// Digits in this range are seconds of the years 1973 to 5138, or milliseconds of 1970 to 1973.
+const LIKE_SECONDS: std::ops::Range<u64> = 100_000_000..100_000_000_000;
+/// Topics that a hint names at most.
+const NAMED: usize = 12;
+
+pub struct Wanted<'a> {
+    topic: Option<&'a [u8]>,
+    times: (u64, u64),
+    /// Whether anything is left out.
+    filters: bool,
+    taken: u64,
+    seen: Seen,
+}
+
+/// What there is, for a hint where nothing was found.
+#[derive(Default)]
+struct Seen {
+    topics: BTreeSet<Vec<u8>>,
+    times: Option<(u64, u64)>,
+}
+
+/// First and last time, from two options.
+pub fn times(args: &Args, from: &str, to: &str) -> Result<(u64, u64), Failure> {
+    let (first, last) = (args.time(from)?, args.time(to)?);
+    let times = (first.unwrap_or(0), last.unwrap_or(time::LAST));
+    if times.0 > times.1 {
+        return usage(format!("{from} is later than {to}"));
+    }
+    Ok(times)
+}
+
+/// What to say where milliseconds look like seconds.
+pub fn seconds(args: &Args, options: &[&str]) -> Vec<String> {
+    let mut hints = Vec::new();
+    for option in options {
+        let digits = args.value(option).and_then(|value| value.to_str());
+        let given = digits.and_then(crate::args::number);
+        if let Some(given) = given.filter(|given| LIKE_SECONDS.contains(given)) {
+            hints.push(format!(
+                "{option} {given} is {} in milliseconds; if seconds are meant, {}, it is {option} {given}000",
+                time::shown(given),
+                time::shown(given * 1000)
+            ));
+        }
+    }
+    hints
+}
+
+/// Takes the topic of what was read.
+pub fn add_topic(topics: &mut BTreeSet<Vec<u8>>, entry: &Entry) {
+    if let Entry::Record { message, .. } = entry {
+        if !topics.contains(message.topic) {
+            topics.insert(message.topic.to_vec());
+        }
+    }
+}
+
+impl<'a> Wanted<'a> {
+    pub fn of(args: &'a Args, from: &str, to: &str) -> Result<Wanted<'a>, Failure> {
+        let topic = match args.value("--topic") {
+            Some(_) => Some(args.bytes("--topic")?),
+            None => None,
+        };
+        let times = times(args, from, to)?;
+        Ok(Wanted {
+            topic,
+            times,
+            filters: topic.is_some() || times != (0, time::LAST),
+            taken: 0,
+            seen: Seen::default(),
+        })
+    }
+
+    /// Blanks are wanted only where everything is.
+    pub fn takes(&mut self, entry: &Entry) -> bool {
+        let takes = match entry {
+            _ if !self.filters => true,
+            Entry::Record { message, .. } => {
+                add_topic(&mut self.seen.topics, entry);
+                self.takes_record(message)
+            }
+            Entry::Blank { .. } => false,
+        };
+        self.taken += u64::from(takes);
+        takes
+    }
+
+    fn takes_record(&mut self, message: &Message) -> bool {
+        self.seen.add_time(message.store_time);
+        let (first, last) = self.times;
+        self.topic.is_none_or(|topic| topic == message.topic)
+            && (first..=last).contains(&message.store_time)
+    }
+
+    /// Where nothing was taken: what there is instead.
+    pub fn tell_if_none(&self, place: &str) {
+        if self.taken > 0 || !self.filters {
+            return;
+        }
+        if let Some(topic) = self
+            .topic
+            .filter(|topic| !self.seen.topics.contains(*topic))
+        {
+            note(&no_topic(place, topic, &self.seen.topics));
+        }
+        if let Some(sentence) = outside(place, self.times, self.seen.times) {
+            note(&sentence);
+        }
+    }
+}
+
+impl Seen {
+    fn add_time(&mut self, time: u64) {
+        let (low, high) = self.times.unwrap_or((time, time));
+        self.times = Some((low.min(time), high.max(time)));
+    }
+}
+
+/// That a topic is not there, and which ones are.
+pub fn no_topic(place: &str, topic: &[u8], topics: &BTreeSet<Vec<u8>>) -> String {
+    let mut names: Vec<String> = topics
+        .iter()
+        .take(NAMED)
+        .map(|topic| shown(topic))
+        .collect();
+    if names.is_empty() {
+        names.push(String::from("none"));
+    }
+    let more = match topics.len().saturating_sub(NAMED) {
+        0 => String::new(),
+        more => format!(" and {}", counted(more as u64, "other", "others")),
+    };
+    format!(
+        "{place} has no topic {}; its topics are: {}{more}",
+        shown(topic),
+        names.join(", ")
+    )
+}
+
+/// That a range of times has nothing in common with those that are there.
+pub fn outside(place: &str, wanted: (u64, u64), seen: Option<(u64, u64)>) -> Option<String> {
+    let (low, high) = seen?;
+    let apart = wanted.1 < low || wanted.0 > high;
+    apart.then(|| {
+        format!(
+            "the range is outside the times of {place}, which are from {} ({low}) to {} ({high})",
+            time::shown(low),
+            time::shown(high)
+        )
+    })
+}
