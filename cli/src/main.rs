@@ -3,16 +3,19 @@
 //! The archive does all reading, rebuilding and searching. This program finds, maps and lends files.
 
 mod args;
+mod broker;
 mod check;
 mod crc;
 mod demo;
 mod failure;
+mod files;
 mod form;
 mod help;
 mod index;
 mod journal;
 mod list;
 mod log;
+mod loss;
 mod map;
 mod medium;
 mod meter;
@@ -23,6 +26,7 @@ mod queue;
 mod queues;
 mod rebuild;
 mod record;
+mod shell;
 mod show;
 mod text;
 mod time;
@@ -71,8 +75,15 @@ const COMMANDS: [Command; 7] = [
     Command {
         name: "rebuild",
         help: help::REBUILD,
-        flags: &["--json", "--force", "--restart"],
+        flags: &[
+            "--json",
+            "--force",
+            "--shorten",
+            "--restart",
+            "--after-crash",
+        ],
         values: &[
+            "--into",
             "--queues",
             "--budget",
             "--batch",
@@ -126,7 +137,7 @@ const COMMANDS: [Command; 7] = [
     Command {
         name: "check",
         help: help::CHECK,
-        flags: &["--json"],
+        flags: &["--json", "--jsonl", "--bodies"],
         values: &["--queues", "--slots", "--segment-size", "--end"],
         run: check::run,
     },
@@ -151,6 +162,7 @@ fn print(text: &str) -> Result<Outcome, Failure> {
 }
 
 fn main() -> ExitCode {
+    medium::ignore_size_signal();
     match run() {
         Ok(Outcome::Sound) | Err(Failure::Unread) => ExitCode::SUCCESS,
         Ok(Outcome::Fault) => ExitCode::from(1),
@@ -196,6 +208,10 @@ fn run() -> Result<Outcome, Failure> {
         )),
         other => other,
     })?;
+    // A rebuild refuses by itself, and the demo makes a new folder.
+    if !["demo", "rebuild"].contains(&command.name) {
+        broker::warn(args.place());
+    }
     (command.run)(&args)
 }
 

@@ -3,7 +3,7 @@
 use crate::args::{number, Args};
 use crate::failure::{fault, usage, Failure};
 use crate::index::{MOST_ITEMS, MOST_SLOTS};
-use crate::log::Log;
+use crate::log::{End, Log};
 use crate::queues::{self, Queue, MOST_ENTRIES, MOST_QUEUES};
 use crate::text::{grouped, of_shown, shown, shown_path};
 use crate::time;
@@ -40,15 +40,6 @@ pub struct Sizes {
 }
 
 impl Sizes {
-    /// RocketMQ's queue files, and an index of these sizes.
-    pub fn with_index(index: IndexGeometry) -> Sizes {
-        Sizes {
-            entries: None,
-            slots: Some(index.slots),
-            items: Some(index.items),
-        }
-    }
-
     pub fn of(args: &Args) -> Result<Sizes, Failure> {
         Ok(Sizes {
             entries: args.number_within("--entries", 1, MOST_ENTRIES)?,
@@ -62,16 +53,7 @@ impl Sizes {
 pub struct Refusal {
     why: Failure,
     /// The record that cannot be taken, if one before it can.
-    pub before: Option<LogPosition>,
-}
-
-impl Refusal {
-    pub fn why(&self) -> Result<&str, Failure> {
-        match &self.why {
-            Failure::Usage(why) | Failure::Fault(why) => Ok(why),
-            Failure::Unread => Err(Failure::Unread),
-        }
-    }
+    before: Option<LogPosition>,
 }
 
 impl From<Refusal> for Failure {
@@ -164,7 +146,13 @@ impl Rows {
 
 impl Plan {
     /// For a new rebuild. Without sizes RocketMQ's own are taken, so that a broker can read the files; they are sparse.
-    pub fn new(log: &Log, sizes: &Sizes, listed: Option<Vec<Queue>>) -> Result<Plan, Refusal> {
+    /// The log's end comes with it, as it is read once for both; `shown` is told how far.
+    pub fn with_end(
+        log: &Log,
+        sizes: &Sizes,
+        listed: Option<Vec<Queue>>,
+        mut shown: impl FnMut(LogPosition),
+    ) -> Result<(Plan, End), Refusal> {
         let entries = QueueEntries(sizes.entries.unwrap_or(MOST_ENTRIES));
         let derive = listed.is_none();
         let start = QueueOffset(0);
@@ -181,6 +169,7 @@ impl Plan {
         let mut reached = log.first();
         let walked = log.walk(log.first(), |position, entry| {
             reached = position;
+            shown(position);
             if let Entry::Record { message, .. } = entry {
                 first_time.get_or_insert(message.store_time);
                 if makes_entry(message.system_flag) {
@@ -189,10 +178,13 @@ impl Plan {
             }
             Ok(true)
         });
-        if let Err(why) = walked {
-            let before = rows.seen.contains(&true).then_some(reached);
-            return Err(Refusal { why, before });
-        }
+        let end = match walked {
+            Ok(end) => end,
+            Err(why) => {
+                let before = rows.seen.contains(&true).then_some(reached);
+                return Err(Refusal { why, before });
+            }
+        };
         if rows.rows.is_empty() {
             let why = "no record of the log belongs to a queue: there is nothing to rebuild";
             return Err(Refusal {
@@ -200,7 +192,7 @@ impl Plan {
                 before: None,
             });
         }
-        Ok(Plan {
+        let plan = Plan {
             log: log.geometry,
             entries,
             index: IndexGeometry {
@@ -209,7 +201,8 @@ impl Plan {
             },
             index_name: time::file_name(first_time.unwrap_or(0)),
             rows: rows.rows,
-        })
+        };
+        Ok((plan, end))
     }
 
     /// Whether a rebuild under way is the one that is asked for now.
@@ -333,6 +326,6 @@ impl Plan {
 }
 
 /// Transaction type none or commit.
-fn makes_entry(system_flag: u32) -> bool {
+pub fn makes_entry(system_flag: u32) -> bool {
     matches!(system_flag & 12, 0 | 8)
 }

@@ -10,10 +10,12 @@ use crate::log::{self, Log, Met};
 use crate::note;
 use crate::queues;
 use crate::record::{self, With};
-use crate::text::{counted, quoted_path, shown, shown_path, strings, Object};
+use crate::shell;
+use crate::text::{counted, shown, shown_path, strings, Object};
 use crate::wanted::{self, times};
 use search::{Asked, Search};
 use std::collections::BTreeSet;
+use std::os::unix::ffi::OsStrExt;
 use swistopal::Query;
 
 const DEFAULT_LIMIT: u64 = 32;
@@ -33,7 +35,7 @@ pub fn run(args: &Args) -> Result<Outcome, Failure> {
             return fault(format!(
                 "{}: no index in it; --scan looks through the log itself, and `swistopal check {}` says how to make an index",
                 shown_path(args.place()),
-                quoted_path(args.place())
+                shell::place(args.place().as_os_str().as_bytes())
             ));
         }
         search.faults.extend(faults);
@@ -111,7 +113,7 @@ fn by_index(args: &Args, search: &mut Search, indexes: &[Index]) -> Result<(), F
             }
         }
     }
-    search.look_behind(indexes, &quoted_path(args.place()))
+    search.look_behind(indexes, &shell::place(args.place().as_os_str().as_bytes()))
 }
 
 /// The topics of the store: those of its queues, and those of its log, which is read for them.

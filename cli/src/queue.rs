@@ -7,9 +7,11 @@ use crate::log::{self, Log};
 use crate::note;
 use crate::queues::{self, Queue, QueueFile};
 use crate::record::{self, Read, With};
-use crate::text::{counted, grouped, quoted_path, shown, shown_path, strings, Object};
+use crate::shell;
+use crate::text::{counted, grouped, shown, shown_path, strings, Object};
 use crate::wanted;
 use std::collections::BTreeSet;
+use std::os::unix::ffi::OsStrExt;
 use swistopal::{
     append, dispatch, read_queue, Answer, Dispatch, Entry, IndexGeometry, LogGeometry, LogPosition,
     Message, Progress, QueueEntries, QueueOffset, QueueReading,
@@ -39,7 +41,7 @@ pub fn run(args: &Args) -> Result<Outcome, Failure> {
     if let Some(last) = positions.iter().max() {
         reading.damage = log.damage_before(*last)?;
     }
-    let store = quoted_path(args.place());
+    let store = shell::place(args.place().as_os_str().as_bytes());
     for fault in file_faults {
         let next = format!("`swistopal check {store}` says what to do");
         reading.faults.push(format!("{fault}; {next}"));
@@ -151,7 +153,7 @@ fn absent(args: &Args, queue: &Queue) -> Result<Outcome, Failure> {
         true => wanted::no_topic("consumequeue", &queue.topic, &topics),
         false => format!("that topic has the queues {}", ids.join(", ")),
     };
-    let store = quoted_path(args.place());
+    let store = shell::place(args.place().as_os_str().as_bytes());
     fault(format!(
         "{}: no queue {} in it: {instead}; `swistopal list --long {store}` shows topic and queue of each record, \
          `swistopal check {store}` says what is missing",

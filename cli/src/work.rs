@@ -1,19 +1,22 @@
-//! The work folder of a rebuild, inside the store. It is locked while one works in it.
+//! The work folder of a rebuild, where its results go. It is locked while one works in it.
 //!
 //! plan: what is being built. queues: all queues as one run of bytes. store/index/NAME: the index. journal: the last batch.
-//! store/consumequeue: the queue files, when all is done. old: what `--force` replaces.
+//! store/consumequeue: the queue files, when all is done. kept: the time in the names of what `--force` replaces.
 
 use crate::failure::{fault, usage, At, Failure};
 use crate::index::{item_place, slot_place, Bytes};
-use crate::journal::{Journal, Stage, State, Target, Writer};
-use crate::map::{Draft, View};
+use crate::journal::{Journal, Stage, State, Writer};
+use crate::map::{begin_to_sync, page_size, Draft, View};
 use crate::plan::Plan;
 use crate::queues::{directory, FIRST_FILE, NO_RECORD};
 use crate::text::{grouped, shown_path};
+use crate::time;
 use std::fs::{self, File, OpenOptions, TryLockError};
 use std::io::{self, Write};
-use std::os::unix::fs::FileExt;
+use std::ops::Range;
+use std::os::unix::fs::{FileExt, MetadataExt};
 use std::path::{Path, PathBuf};
+use std::time::{SystemTime, UNIX_EPOCH};
 use swistopal::{
     dispatch, Answer, Dispatch, Dispatched, LogPosition, Progress, QueueEntries, QueueOffset,
 };
@@ -21,8 +24,12 @@ use swistopal::{
 const FOLDER: &str = "swistopal.rebuild";
 const FINISHED: &str = "swistopal.rebuild.done";
 const LOCK: &str = "lock";
-/// What a rebuild puts into the store.
+/// What a rebuild makes.
 const RESULTS: [&str; 2] = ["consumequeue", "index"];
+/// Steps between two moments in which the progress is shown.
+const PIECE: u64 = 32_768;
+/// Slots with fewer others between them are written as one piece.
+const NEAR: u64 = 64;
 
 /// The work folder, locked.
 pub struct Claim {
@@ -35,42 +42,40 @@ impl Claim {
     /// The rebuild that is under way, if there is one. At most its lock is written, if it was cut before it had one.
     pub fn existing(store: &Path) -> Result<Option<Claim>, Failure> {
         let folder = store.join(FOLDER);
-        if !folder.exists() {
-            return Ok(None);
+        while folder.exists() {
+            ask_for_lock(&folder)?;
+            if let Some(claim) = Claim::of(store, &folder)? {
+                return Ok(Some(claim));
+            }
         }
-        ask_for_lock(&folder)?;
-        Claim::lock(store, folder).map(Some)
+        Ok(None)
     }
 
     pub fn create(store: &Path) -> Result<Claim, Failure> {
         let folder = store.join(FOLDER);
-        if let Err(error) = fs::create_dir(&folder) {
-            return fault(format!(
-                "cannot create {}: {error}; a rebuild works inside the store: move away what is in its place, \
-                 or copy the store to where it can be written",
-                shown_path(folder)
-            ));
-        }
-        Claim::lock(store, folder)
-    }
-
-    fn lock(store: &Path, folder: PathBuf) -> Result<Claim, Failure> {
-        let path = folder.join(LOCK);
-        let mut options = OpenOptions::new();
-        let lock = options.create(true).truncate(false).write(true);
-        let lock = lock.open(&path).at("open", &path)?;
-        match lock.try_lock() {
-            Ok(()) => Ok(Claim {
-                store: store.to_path_buf(),
-                folder,
-                _lock: lock,
-            }),
-            Err(TryLockError::WouldBlock) => fault(format!(
-                "{}: another rebuild is at work",
+        match fs::create_dir(&folder) {
+            Ok(()) => match Claim::of(store, &folder)? {
+                Some(claim) => Ok(claim),
+                None => at_work(&folder),
+            },
+            Err(error) if error.kind() == io::ErrorKind::AlreadyExists && folder.is_dir() => {
+                at_work(&folder)
+            }
+            Err(error) => fault(format!(
+                "cannot create {}: {error}; a rebuild works where its results go: name another folder with --into, or copy \
+                 the store to where it can be written",
                 shown_path(folder)
             )),
-            Err(TryLockError::Error(error)) => Err(error).at("lock", &path),
         }
+    }
+
+    fn of(store: &Path, folder: &Path) -> Result<Option<Claim>, Failure> {
+        let claim = |lock| Claim {
+            store: store.to_path_buf(),
+            folder: folder.to_path_buf(),
+            _lock: lock,
+        };
+        lock(folder).map(|lock| lock.map(claim))
     }
 
     /// Ends this rebuild and removes its folder: the rename is the end, the rest is tidying.
@@ -79,7 +84,7 @@ impl Claim {
         remove_finished(&self.store)?;
         fs::rename(&self.folder, &finished).at("rename", &self.folder)?;
         sync_folder(&self.store)?;
-        remove_finished(&self.store)
+        remove(&finished).at("remove", &finished)
     }
 
     /// Writes a plan with empty work files into a new folder. The plan comes last: without it nothing here counts.
@@ -101,21 +106,25 @@ impl Claim {
         sync_folder(&parts.index_folder)?;
         sync_folder(&parts.store)?;
 
-        let (part, path) = (self.folder.join("plan.part"), self.folder.join("plan"));
-        let mut file = File::create(&part).at("create", &part)?;
-        let text = plan.to_text();
-        let written = file
-            .write_all(text.as_bytes())
-            .and_then(|()| file.sync_all());
-        written.at("write", &part)?;
-        fs::rename(&part, &path).at("rename", &part)?;
-        sync_folder(&self.folder)?;
+        write_whole(&self.folder.join("plan"), plan.to_text().as_bytes())?;
         sync_folder(&self.store)?;
-        self.resume(plan)
+        Ok(self.work(plan))
     }
 
     /// Goes on from the last journal.
     pub fn resume(self, plan: Plan) -> Result<Work, Failure> {
+        let mut work = self.work(plan);
+        if work.parts.journal.exists() {
+            work.apply_journal()?;
+        }
+        if work.state.stage == Stage::Building {
+            work.clear_items()?;
+        }
+        Ok(work)
+    }
+
+    /// Before its first step.
+    fn work(self, plan: Plan) -> Work {
         let parts = Parts::of(&self.folder, &plan);
         let mut progress = Progress::from_position(plan.log.first_position);
         for (count, row) in progress.counts.iter_mut().zip(&plan.rows) {
@@ -126,24 +135,21 @@ impl Claim {
             steps: 0,
             progress,
         };
-        let mut work = Work {
+        Work {
             directory: directory(&plan.queues()),
             claim: self,
             plan,
             parts,
             state,
-        };
-        if work.parts.journal.exists() {
-            work.apply_journal()?;
+            targets: None,
         }
-        Ok(work)
     }
 }
 
 /// Paths inside the work folder.
 struct Parts {
     store: PathBuf,
-    old: PathBuf,
+    kept: PathBuf,
     queues: PathBuf,
     index_folder: PathBuf,
     index: PathBuf,
@@ -156,7 +162,7 @@ impl Parts {
         let store = folder.join("store");
         let index_folder = store.join("index");
         Parts {
-            old: folder.join("old"),
+            kept: folder.join("kept"),
             queues: folder.join("queues"),
             index: index_folder.join(&plan.index_name),
             journal: folder.join("journal"),
@@ -167,6 +173,73 @@ impl Parts {
     }
 }
 
+/// A work file and what it is to become.
+struct Target {
+    file: File,
+    bytes: Draft,
+    /// Before it stands what the file is given by the journal alone.
+    from: u64,
+}
+
+impl Target {
+    /// Brings bytes to the file that nothing counts yet: from here on its pages stand for them. The disk may begin with them
+    /// at once.
+    fn bring(&mut self, bytes: Range<u64>) -> io::Result<()> {
+        let (from, to) = (bytes.start as usize, bytes.end as usize);
+        self.file.write_all_at(&self.bytes[from..to], bytes.start)?;
+        begin_to_sync(&self.file, bytes.clone());
+        let from = bytes.start.max(self.from.next_multiple_of(page_size()));
+        self.bytes.settle(&self.file, from..bytes.end)
+    }
+}
+
+/// How far a rebuild is: entries of each queue, and the used count of its index.
+#[derive(Clone, Copy)]
+struct Reached {
+    counts: [QueueOffset; 16],
+    used: u64,
+}
+
+struct Targets {
+    queues: Target,
+    index: Target,
+    /// Up to here the files have entries and items.
+    brought: Reached,
+}
+
+impl Targets {
+    fn used(&self) -> u64 {
+        Bytes(&self.index.bytes).used()
+    }
+
+    /// Brings new entries and items to the files, where they count once a journal says so.
+    fn bring_new(&mut self, plan: &Plan, progress: &Progress) -> io::Result<()> {
+        let (before, slots) = (self.brought, plan.index.slots);
+        let region = plan.entries.0 * QueueEntries::ENTRY_BYTES;
+        let rows = before.counts.iter().zip(&progress.counts).enumerate();
+        for (number, (old, new)) in rows.filter(|(_, (old, new))| old < new) {
+            let start = number as u64 * region;
+            let bytes = start + entry_bytes(*old)..start + entry_bytes(*new);
+            self.queues.bring(bytes)?;
+        }
+        let used = self.used();
+        if before.used < used {
+            let bytes = item_place(slots, before.used)..item_place(slots, used);
+            self.index.bring(bytes)?;
+        }
+        self.brought = Reached {
+            counts: progress.counts,
+            used,
+        };
+        Ok(())
+    }
+
+    fn sync(&self) -> io::Result<()> {
+        self.queues.file.sync_data()?;
+        self.index.file.sync_data()
+    }
+}
+
 /// A rebuild with its plan.
 pub struct Work {
     claim: Claim,
@@ -174,61 +247,128 @@ pub struct Work {
     directory: Vec<u8>,
     parts: Parts,
     pub state: State,
+    targets: Option<Targets>,
 }
 
 impl Work {
-    /// At most so many steps, done as a whole: after a crash either all of them stand or none.
+    /// At most so many steps, done as a whole: after a crash either all of them stand or none. `shown` is told the position
+    /// and the steps now and then.
     pub fn batch(
         &mut self,
         log: &[u8],
         readable_end: LogPosition,
         budget: u64,
+        mut shown: impl FnMut(LogPosition, u64),
     ) -> Result<Dispatched, Failure> {
-        let (queues_file, index_file) = self.open_targets()?;
-        let mut queues = Draft::of_file(&queues_file, queues_length(&self.plan)?)
-            .at("map", &self.parts.queues)?;
-        let mut index =
-            Draft::of_file(&index_file, index_length(&self.plan)?).at("map", &self.parts.index)?;
-        let before = self.state.progress;
-        let used_before = Bytes(&index).used();
-        let mut progress = before;
-        let call = Dispatch {
+        let mut targets = self.take_targets()?;
+        let used_before = targets.used();
+        let mut after = self.state;
+        let mut call = Dispatch {
             log,
             log_geometry: self.plan.log,
             readable_end,
             directory: &self.directory,
             queue_entries: self.plan.entries,
             index_geometry: self.plan.index,
-            budget,
+            budget: 0,
         };
-        let done = match dispatch(&call, &mut progress, &mut queues, &mut index) {
-            Ok(done) => done,
-            Err(refusal) => {
-                return fault(format!(
-                    "{}: answer {}: {refusal}; --restart begins anew",
-                    shown_path(&self.claim.folder),
-                    refusal.number()
-                ))
+        let mut steps = 0;
+        let stop = loop {
+            call.budget = PIECE.min(budget - steps);
+            let (queues, index) = (&mut targets.queues.bytes, &mut targets.index.bytes);
+            let done = match dispatch(&call, &mut after.progress, queues, index) {
+                Ok(done) => done,
+                Err(refusal) => return self.refused(refusal),
+            };
+            steps += done.steps;
+            let brought = targets.bring_new(&self.plan, &after.progress);
+            brought.at("write", &self.claim.folder)?;
+            shown(after.progress.position, steps);
+            if done.stop != Answer::BudgetSpent || steps == budget {
+                break done.stop;
             }
         };
-        if done.steps > 0 {
-            let after = State {
-                stage: Stage::Building,
-                steps: self.state.steps + done.steps,
-                progress,
-            };
-            let write = || {
-                let mut journal = Writer::create(&self.parts.journal_part, &after)?;
-                let entries = self.plan.entries;
-                patch_queues(&mut journal, &queues, entries, &before, &progress)?;
-                patch_index(&mut journal, &index, self.plan.index.slots, used_before)?;
-                journal.finish()
-            };
-            write().at("write", &self.parts.journal_part)?;
-            self.commit_journal()?;
-            self.apply_journal()?;
+        after.steps += steps;
+        if steps > 0 {
+            self.keep(&targets, after, used_before)?;
         }
-        Ok(done)
+        self.targets = Some(targets);
+        Ok(Dispatched { stop, steps })
+    }
+
+    fn refused<T>(&self, refusal: Answer) -> Result<T, Failure> {
+        fault(format!(
+            "{}: answer {}: {refusal}; --restart begins anew",
+            shown_path(&self.claim.folder),
+            refusal.number()
+        ))
+    }
+
+    /// Writes the journal of a batch, by which it counts, and brings it to the index.
+    fn keep(&mut self, targets: &Targets, after: State, used_before: u64) -> Result<(), Failure> {
+        let index = &targets.index.bytes;
+        let changes = index_changes(&Bytes(index), self.plan.index.slots, used_before);
+        let changed = |change: &Range<u64>| &index[change.start as usize..change.end as usize];
+        // Entries and items of this batch, and what the journal that goes now has promised.
+        targets.sync().at("write", &self.claim.folder)?;
+        let write = || {
+            let mut journal = Writer::create(&self.parts.journal_part, &after)?;
+            for change in &changes {
+                journal.patch(change.start, changed(change))?;
+            }
+            journal.finish()
+        };
+        write().at("write", &self.parts.journal_part)?;
+        self.commit_journal()?;
+        self.state = after;
+        let file = &targets.index.file;
+        let mut changes = changes.iter();
+        let applied =
+            changes.try_for_each(|change| file.write_all_at(changed(change), change.start));
+        applied.at("write", &self.parts.index)
+    }
+
+    /// The work files with what they have so far.
+    fn take_targets(&mut self) -> Result<Targets, Failure> {
+        if let Some(targets) = self.targets.take() {
+            return Ok(targets);
+        }
+        let (queues_file, index_file) = self.open_targets()?;
+        let counts = self.state.progress.counts;
+        let path = &self.parts.queues;
+        let length = queues_length(&self.plan)?;
+        let mut queues = Draft::for_file(&queues_file, length).at("map", path)?;
+        let region = self.plan.entries.0 * QueueEntries::ENTRY_BYTES;
+        for number in 0..self.plan.rows.len() {
+            let from = number as u64 * region;
+            let in_use = from..from + entry_bytes(counts[number]);
+            queues.load(&queues_file, in_use).at("read", path)?;
+        }
+        let path = &self.parts.index;
+        let length = index_length(&self.plan)?;
+        let mut index = Draft::for_file(&index_file, length).at("map", path)?;
+        if self.state.steps > 0 {
+            let slots = self.plan.index.slots;
+            let table = &mut index[..slot_place(slots) as usize];
+            index_file.read_exact_at(table, 0).at("read", path)?;
+            let used = Bytes(&index).used().min(self.plan.index.items);
+            let items = item_place(slots, 1)..item_place(slots, used);
+            index.load(&index_file, items).at("read", path)?;
+        }
+        let used = Bytes(&index).used();
+        Ok(Targets {
+            queues: Target {
+                file: queues_file,
+                bytes: queues,
+                from: 0,
+            },
+            index: Target {
+                file: index_file,
+                bytes: index,
+                from: item_place(self.plan.index.slots, 0),
+            },
+            brought: Reached { counts, used },
+        })
     }
 
     fn open_targets(&self) -> Result<(File, File), Failure> {
@@ -263,12 +403,31 @@ impl Work {
         };
         self.state = journal.state;
         if self.state.stage == Stage::Building {
-            let (queues, index) = self.open_targets()?;
-            journal
-                .apply(&queues, &index)
-                .at("write", &self.claim.folder)?;
+            let (_, index) = self.open_targets()?;
+            journal.apply(&index).at("write", &self.parts.index)?;
         }
         Ok(())
+    }
+
+    /// A batch that was cut may have left items that count for nothing: they make way for zeros.
+    fn clear_items(&self) -> Result<(), Failure> {
+        let path = &self.parts.index;
+        let (_, file) = self.open_targets()?;
+        let used = self.items()? + 1;
+        let mut from = item_place(self.plan.index.slots, used);
+        let end = index_length(&self.plan)? as u64;
+        let mut block = vec![0; 1 << 20];
+        while from < end {
+            let length = block.len().min((end - from) as usize);
+            let block = &mut block[..length];
+            file.read_exact_at(block, from).at("read", path)?;
+            if block.iter().any(|byte| *byte != 0) {
+                block.fill(0);
+                file.write_all_at(block, from).at("write", path)?;
+            }
+            from += length as u64;
+        }
+        file.sync_data().at("write", path)
     }
 
     pub fn items(&self) -> Result<u64, Failure> {
@@ -291,8 +450,10 @@ impl Work {
         places.find_map(|name| occupied(&self.claim.store, name))
     }
 
-    /// Writes the queue files and moves all results to their places. It may be cut anywhere and called again.
-    pub fn place(mut self) -> Result<(), Failure> {
+    /// Writes the queue files and moves all results to their places. It may be cut anywhere and called again. What was in
+    /// their places is kept beside them: these are its names.
+    pub fn place(mut self) -> Result<Vec<PathBuf>, Failure> {
+        let time = self.time_of_kept()?;
         if self.state.stage == Stage::Building {
             self.write_queue_files()?;
             self.state.stage = Stage::Placing;
@@ -301,30 +462,59 @@ impl Work {
             written.at("write", &self.parts.journal_part)?;
             self.commit_journal()?;
         }
-        let Parts { store, old, .. } = &self.parts;
+        let store = &self.claim.store;
+        let mut kept = Vec::new();
         for name in RESULTS {
-            let (made, place) = (store.join(name), self.claim.store.join(name));
-            if !made.exists() {
-                continue;
+            let (made, place) = (self.parts.store.join(name), store.join(name));
+            let aside = kept_name(store, name, &time);
+            if made.exists() {
+                if occupied(store, name).is_some() {
+                    put_aside(&place, &aside)?;
+                    sync_folder(store)?;
+                }
+                fs::rename(&made, &place).at("move", &made)?;
+                sync_folder(store)?;
             }
-            if occupied(&self.claim.store, name).is_some() {
-                fs::create_dir_all(old).at("create", old)?;
-                fs::rename(&place, old.join(name)).at("move", &place)?;
+            if is_there(&aside) {
+                kept.push(aside);
             }
-            fs::rename(&made, &place).at("move", &made)?;
-            sync_folder(&self.claim.store)?;
         }
-        self.claim.discard()
+        self.claim.discard()?;
+        Ok(kept)
     }
 
-    fn write_queue_files(&self) -> Result<(), Failure> {
+    /// The time in the names of what is kept. It is written down, so that a rebuild that was cut goes on with the same one.
+    fn time_of_kept(&self) -> Result<String, Failure> {
+        let path = &self.parts.kept;
+        match fs::read_to_string(path) {
+            Err(error) if error.kind() == io::ErrorKind::NotFound => {
+                let time = free_time(&self.claim.store);
+                write_whole(path, time.as_bytes())?;
+                Ok(time)
+            }
+            Ok(time)
+                if time
+                    .bytes()
+                    .all(|byte| byte.is_ascii_graphic() && byte != b'/') =>
+            {
+                Ok(time)
+            }
+            Ok(_) => fault(format!(
+                "{}: it is damaged; --restart begins anew",
+                shown_path(path)
+            )),
+            Err(error) => Err(error).at("read", path),
+        }
+    }
+
+    fn write_queue_files(&mut self) -> Result<(), Failure> {
         let consumequeue = self.parts.store.join("consumequeue");
         if consumequeue.exists() {
             fs::remove_dir_all(&consumequeue).at("remove", &consumequeue)?;
         }
-        let (queues, _) = self.open_targets()?;
-        let length = queues_length(&self.plan)?;
-        let queues = View::of_file(&queues, length).at("map", &self.parts.queues)?;
+        let targets = self.take_targets()?;
+        targets.sync().at("write", &self.claim.folder)?;
+        let queues = &targets.queues.bytes;
         let region = (self.plan.entries.0 * QueueEntries::ENTRY_BYTES) as usize;
         for (number, row) in self.plan.rows.iter().enumerate() {
             let folder = row.queue.folder(&consumequeue)?;
@@ -344,46 +534,22 @@ impl Work {
     }
 }
 
-/// The new entries of each queue.
-fn patch_queues(
-    journal: &mut Writer,
-    queues: &[u8],
-    entries: QueueEntries,
-    before: &Progress,
-    after: &Progress,
-) -> io::Result<()> {
-    let region = entries.0 * QueueEntries::ENTRY_BYTES;
-    let rows = before.counts.iter().zip(&after.counts);
-    for (number, (old, new)) in rows.enumerate() {
-        let start = number as u64 * region;
-        let (from, to) = (start + entry_bytes(*old), start + entry_bytes(*new));
-        if from < to {
-            journal.patch(Target::Queues, from, &queues[from as usize..to as usize])?;
-        }
+/// The header and the slots that new items stand in. Apart from the items dispatch changes no other byte of the index.
+fn index_changes(index: &Bytes, slots: u64, used_before: u64) -> Vec<Range<u64>> {
+    let used = index.used();
+    if used - used_before >= slots / NEAR {
+        return vec![0..slot_place(slots)];
     }
-    Ok(())
-}
-
-/// The header, the new items, and the slots that they stand in: dispatch changes no other byte of the index.
-fn patch_index(journal: &mut Writer, index: &[u8], slots: u64, used_before: u64) -> io::Result<()> {
-    let fields = Bytes(index);
-    let used = fields.used();
-    journal.patch(Target::Index, 0, &index[..40])?;
-    let (from, to) = (item_place(slots, used_before), item_place(slots, used));
-    journal.patch(Target::Index, from, &index[from as usize..to as usize])?;
     let new = used_before..used;
     let mut changed: Vec<u64> = new
-        .filter_map(|item| fields.slot_of_item(slots, item))
+        .filter_map(|item| index.slot_of_item(slots, item))
         .collect();
     changed.sort_unstable();
     changed.dedup();
-    // Slots close to each other share a patch; those between them keep their bytes.
-    for near in changed.chunk_by(|slot, next| next - slot <= 4) {
-        let (first, last) = (near[0], near[near.len() - 1]);
-        let (from, to) = (slot_place(first), slot_place(last + 1));
-        journal.patch(Target::Index, from, &index[from as usize..to as usize])?;
-    }
-    Ok(())
+    let pieces = changed.chunk_by(|slot, next| next - slot <= NEAR);
+    let pieces = pieces.map(|near| slot_place(near[0])..slot_place(near[near.len() - 1] + 1));
+    let header = 0..slot_place(0);
+    [header].into_iter().chain(pieces).collect()
 }
 
 fn entry_bytes(count: QueueOffset) -> u64 {
@@ -430,10 +596,57 @@ fn empty(folder: &Path) -> bool {
     fs::read_dir(folder).is_ok_and(|mut entries| entries.next().is_none())
 }
 
+fn is_there(path: &Path) -> bool {
+    path.symlink_metadata().is_ok()
+}
+
 /// A result's place in the store, if something is there.
 pub fn occupied(store: &Path, name: &str) -> Option<PathBuf> {
     let place = store.join(name);
-    (place.symlink_metadata().is_ok() && !empty(&place)).then_some(place)
+    (is_there(&place) && !empty(&place)).then_some(place)
+}
+
+fn kept_name(store: &Path, name: &str, time: &str) -> PathBuf {
+    store.join(format!("{name}.{time}"))
+}
+
+/// The time, as 2026-03-02T05-58-00Z, and a number behind it if something is kept under it already.
+fn free_time(store: &Path) -> String {
+    let since = SystemTime::now().duration_since(UNIX_EPOCH);
+    let millis = since.map_or(0, |since| since.as_millis() as u64);
+    let now = time::shown(millis - millis % 1000).replace(".000", "");
+    let now = now.replace(':', "-");
+    let taken = |time: &String| {
+        let mut names = RESULTS.iter();
+        names.any(|name| is_there(&kept_name(store, name, time)))
+    };
+    let mut others = (2..).map(|number| format!("{now}-{number}"));
+    Some(now.clone())
+        .filter(|now| !taken(now))
+        .or_else(|| others.find(|other| !taken(other)))
+        .expect("there is always one more")
+}
+
+/// Renames what is in a result's place; nothing is ever renamed over something else.
+fn put_aside(place: &Path, aside: &Path) -> Result<(), Failure> {
+    if is_there(aside) {
+        return usage(format!(
+            "{}: it was put there after the rebuild had kept {}; rename it, then the same command goes on",
+            shown_path(place),
+            shown_path(aside)
+        ));
+    }
+    fs::rename(place, aside).at("move", place)
+}
+
+/// Writes a file that is there whole or not at all.
+fn write_whole(path: &Path, bytes: &[u8]) -> Result<(), Failure> {
+    let part = path.with_extension("part");
+    let mut file = File::create(&part).at("create", &part)?;
+    let written = file.write_all(bytes).and_then(|()| file.sync_all());
+    written.at("write", &part)?;
+    fs::rename(&part, path).at("rename", &part)?;
+    path.parent().map_or(Ok(()), sync_folder)
 }
 
 pub fn results_in_the_way(store: &Path) -> Option<PathBuf> {
@@ -456,15 +669,44 @@ pub fn plan_under_way(store: &Path) -> Result<Option<Plan>, Failure> {
     }
 }
 
-/// A folder of ours has the lock, or nothing if it was cut right at its beginning or its end.
+/// A folder of ours has the lock, or nothing if it was cut right at its beginning or its end. Another rebuild may begin or end
+/// while this is looked at, so it is looked at again.
 fn ask_for_lock(folder: &Path) -> Result<(), Failure> {
-    if folder.join(LOCK).exists() || empty(folder) {
+    let ours = || folder.join(LOCK).exists() || empty(folder) || !is_there(folder);
+    if (0..3).any(|_| ours()) {
         return Ok(());
     }
     usage(format!(
         "{}: it is not the work folder of a rebuild; move it away",
         shown_path(folder)
     ))
+}
+
+fn at_work<T>(folder: &Path) -> Result<T, Failure> {
+    fault(format!(
+        "{}: another rebuild is at work; wait until it has ended",
+        shown_path(folder)
+    ))
+}
+
+/// Takes a work folder's lock. None if the folder was renamed or removed meanwhile: the rebuild that had it has ended.
+fn lock(folder: &Path) -> Result<Option<File>, Failure> {
+    let path = folder.join(LOCK);
+    let mut options = OpenOptions::new();
+    let options = options.create(true).truncate(false).write(true);
+    let lock = match options.open(&path) {
+        Err(error) if error.kind() == io::ErrorKind::NotFound => return Ok(None),
+        opened => opened.at("open", &path)?,
+    };
+    match lock.try_lock() {
+        Ok(()) => {}
+        Err(TryLockError::WouldBlock) => return at_work(folder),
+        Err(TryLockError::Error(error)) => return Err(error).at("lock", &path),
+    }
+    let locked = lock.metadata().at("read", &path)?;
+    let same = fs::metadata(&path)
+        .is_ok_and(|named| (named.dev(), named.ino()) == (locked.dev(), locked.ino()));
+    Ok(same.then_some(lock))
 }
 
 /// What a finished or discarded rebuild may have left.
@@ -474,7 +716,10 @@ pub fn remove_finished(store: &Path) -> Result<(), Failure> {
         return Ok(());
     }
     ask_for_lock(&finished)?;
-    remove(&finished).at("remove", &finished)
+    match lock(&finished)? {
+        Some(_held) => remove(&finished).at("remove", &finished),
+        None => Ok(()),
+    }
 }
 
 /// The lock goes last: by it what a cut leaves is known as ours.

@@ -244,9 +244,11 @@ fn rebuild_makes_what_check_expects() {
     assert_eq!(built.len(), log.len() + 8);
 
     // Nothing is replaced without being asked for.
-    tool("rebuild", &store, &SMALL).is(2, "replace it with --force");
+    let way = "it is there already; --force puts the new one in its place and keeps it";
+    tool("rebuild", &store, &SMALL).is(2, way);
     assert_eq!(files(&store), built);
     tool("rebuild", &store, &[&SMALL[..], &["--force"]].concat()).is(0, "stop      0");
+    remove_kept(&store);
     assert_eq!(files(&store), built);
 
     // In parts, by other batches.
@@ -254,17 +256,18 @@ fn rebuild_makes_what_check_expects() {
     tool("rebuild", &store, &options).is(0, "stop      9: the budget is spent");
     tool("check", &store, &[]).is(0, "go on with the rebuild");
     tool("rebuild", &store, &["--force", "--slots", "96"]).is(2, "another number of --slots");
-    tool("rebuild", &store, &[]).is(2, "replace it with --force");
+    tool("rebuild", &store, &[]).is(2, way);
     tool("rebuild", &store, &["--force", "--budget", "0"]).is(0, "stop      9");
     tool("rebuild", &store, &["--force"])
         .is(0, "439 in all")
         .is(0, "going on at position");
+    remove_kept(&store);
     assert_eq!(files(&store), built);
 
     // Begun, then anew with other sizes. What cannot be done forgets nothing.
     tool("rebuild", &store, &options).is(0, "stop      9");
     let begun = files(&store);
-    tool("rebuild", &store, &["--restart"]).is(2, "replace it with --force");
+    tool("rebuild", &store, &["--restart"]).is(2, way);
     let refused = ["--restart", "--force", "--queues", "/nowhere/at/all"];
     tool("rebuild", &store, &refused).is(2, "--queues /nowhere/at/all");
     assert_eq!(files(&store), begun);

@@ -1,4 +1,5 @@
-//! Whatever `check` says to do next: done as it stands there, by a shell, it loses nothing that could be found before.
+//! Whatever `check` says to do next: done as it stands there, by a shell, it loses nothing that could be found before. Nor does
+//! a rebuild that replaces what is there, and what it says itself.
 
 mod common;
 
@@ -92,13 +93,20 @@ fn paths(folder: &Path) -> Vec<PathBuf> {
     found
 }
 
-/// The commands that a check names, as they stand there.
+/// The commands that a check names, as they stand there: up to the end of the line, or to the mark that closes it.
 fn named(check: &Run) -> Vec<String> {
     let lines = check.out.lines();
     let next = lines.filter(|line| line.starts_with("  next     "));
-    let calls = next.filter_map(|line| line.split_once("swistopal "));
-    let calls = calls.filter(|(said, _)| said.ends_with(": "));
-    calls.map(|(_, call)| format!("swistopal {call}")).collect()
+    let calls = next.filter_map(|line| {
+        let (said, call) = line.split_once("swistopal ")?;
+        let end = if said.ends_with('`') {
+            call.find('`')
+        } else {
+            None
+        };
+        Some(&call[..end.unwrap_or(call.len())])
+    });
+    calls.map(|call| format!("swistopal {call}")).collect()
 }
 
 /// A place where stores are tried, and where a shell finds the tool by its name.
@@ -146,6 +154,30 @@ impl Trial {
                 break;
             };
             self.lost_nothing(site, &before, &call);
+        }
+        fs::remove_dir_all(&site.store).unwrap();
+        fs::remove_dir_all(&pristine).unwrap();
+    }
+
+    /// Replaces what is there, and once more in the same second; then with each end that was named.
+    #[track_caller]
+    fn force(&self, site: &Site) {
+        let pristine = self.folder.join("pristine");
+        copy(&site.store, &pristine);
+        let before = Sight::of(site);
+        let forced = [&SMALL[..], &["--force"]].concat();
+        let said = tool("rebuild", &site.store, &forced).err;
+        let ends = said.split("--end ").skip(1).map(|rest| {
+            let digits = rest.find(|c: char| !c.is_ascii_digit());
+            &rest[..digits.unwrap_or(rest.len())]
+        });
+        for end in [None].into_iter().chain(ends.map(Some)) {
+            let mut call = forced.clone();
+            call.extend(end.iter().flat_map(|end| ["--end", *end]));
+            let run = tool("rebuild", &site.store, &call);
+            let what = format!("{call:?} of {}: {}", site.store.display(), run.err);
+            before.is_in(&Sight::of(site), &what);
+            all_kept(&pristine, &site.store, &what);
         }
         fs::remove_dir_all(&site.store).unwrap();
         fs::remove_dir_all(&pristine).unwrap();
@@ -262,33 +294,31 @@ const RESULT_HARMS: [(&str, Harm); 14] = [
     }),
 ];
 
+/// Stores without a fault.
+const HEALTHY: [fn(&Path) -> Site; 17] = [
+    plain,
+    forty_queues,
+    rolled_index,
+    delayed,
+    long_hosts,
+    across_the_last_end,
+    above_the_last_end,
+    |store| removed_segments(store, small(store)),
+    |store| removed_segments(store, small(store).slots(15).items(60)),
+    |store| just_rolled_index(store, false),
+    |store| later_queue(store, 24),
+    |store| later_queue(store, 700_000),
+    removed_queue_files,
+    preallocated,
+    foreign_files,
+    accents,
+    busy,
+];
+
 #[test]
 fn on_healthy_stores() {
     let trial = Trial::new("follow-healthy");
-    let just_rolled: fn(&Path) -> Site = |store| just_rolled_index(store, false);
-    let removed: fn(&Path) -> Site = |store| removed_segments(store, small(store));
-    let removed_rolled: fn(&Path) -> Site =
-        |store| removed_segments(store, small(store).slots(15).items(60));
-    for (number, make) in [
-        forty_queues,
-        rolled_index,
-        delayed,
-        long_hosts,
-        across_the_last_end,
-        above_the_last_end,
-        removed,
-        removed_rolled,
-        just_rolled,
-        |store: &Path| later_queue(store, 24),
-        |store: &Path| later_queue(store, 700_000),
-        removed_queue_files,
-        preallocated,
-        foreign_files,
-        accents,
-    ]
-    .into_iter()
-    .enumerate()
-    {
+    for (number, make) in HEALTHY.into_iter().enumerate() {
         let site = make(&trial.store(&format!("store-{number}")));
         trial.follow(&site, &[]);
     }
@@ -320,6 +350,9 @@ fn on_damaged_results() {
     for (name, harm) in RESULT_HARMS {
         let site = plain(&trial.store(name));
         harm(&site);
+        let check = tool("check", &site.store, &[]);
+        assert_eq!(check.status, i32::from(name != "none"), "{}", check.out);
+        assert!(name != "no-results" || named(&check).len() == 1);
         trial.follow(&site, &[]);
     }
 }
@@ -407,6 +440,25 @@ fn with_options() {
         let end = position(&site, 60).to_string();
         harm(&site);
         trial.follow(&site, &["--end", &end]);
+    }
+}
+
+#[test]
+fn a_forced_rebuild_of_a_healthy_store() {
+    let trial = Trial::new("force-healthy");
+    for (number, make) in HEALTHY.into_iter().enumerate() {
+        let site = make(&trial.store(&format!("store-{number}")));
+        trial.force(&site);
+    }
+}
+
+#[test]
+fn a_forced_rebuild_of_a_damaged_store() {
+    let trial = Trial::new("force-damaged");
+    for (name, harm) in LOG_HARMS.into_iter().chain(RESULT_HARMS) {
+        let site = plain(&trial.store(name));
+        harm(&site);
+        trial.force(&site);
     }
 }
 

@@ -303,6 +303,19 @@ fn hashes_of_java_are_no_fault() {
     shows_all(&site, 0);
 }
 
+#[test]
+fn all_of_it_together_is_no_fault() {
+    let folder = Folder::new("limit-busy");
+    let site = busy(&folder.join("store"));
+    let first = 2 * SEGMENT;
+    checks(&site.store, &[], &["41", "16", "older"]);
+    let there = |parcel: &&Parcel| parcel.put.position >= first;
+    for parcel in site.parcels.iter().filter(there).step_by(7) {
+        finds(&site, parcel);
+    }
+    shows_all(&site, first);
+}
+
 /// A limit hides no fault that can be seen.
 #[test]
 fn damage_beyond_a_limit_is_a_fault() {

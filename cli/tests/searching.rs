@@ -57,13 +57,13 @@ fn only_digits_name_an_index() {
     let index = index_file(&store);
     fs::write(store.join("index/notes.txt"), "parcel 17: see the log").unwrap();
     fs::copy(&index, index.with_extension("bak")).unwrap();
+    tool("check", &store, &[])
+        .is(0, "97 of 97 slots filled; as the log gives it")
+        .shows("nothing: the store is sound");
     fs::create_dir(store.join("index/20990101000000000")).unwrap();
     let run = tool("query", &store, &PARCEL);
     run.is(0, "2 records of");
     assert_eq!(run.out.lines().count(), 3);
-    tool("check", &store, &[])
-        .is(0, "97 of 97 slots filled; as the log gives it")
-        .shows("nothing: the store is sound");
     fs::remove_file(&index).unwrap();
     tool("query", &store, &PARCEL).is(1, "no index in it");
 }

@@ -258,6 +258,27 @@ pub fn accents(store: &Path) -> Site {
     shift.end()
 }
 
+/// All at once, as on the disk of a broker that has run for months: many queues, delayed ones among them, rolled index files,
+/// old segments removed, files made ahead of their use, foreign ones.
+pub fn busy(store: &Path) -> Site {
+    let broker = small(store).slots(15).items(60).queue_entries(20);
+    let broker = broker.checkpoint().lock().next_segment();
+    let mut shift = Shift::new(broker.first_entry("LINE_0", 0, 7));
+    for number in 0..400u32 {
+        shift.parcel(Message {
+            topic: &format!("LINE_{}", number % 8),
+            queue_id: number / 8 % 5,
+            tags: ["left", "été"][number as usize % 2],
+            delay_level: if number % 9 == 0 { 3 } else { 0 },
+            ..Message::default()
+        });
+    }
+    let site = shift.end();
+    remove_segments(store, 2);
+    add_foreign_files(store);
+    site
+}
+
 impl Site {
     /// How many parcels stand before a position.
     pub fn parcels_before(&self, position: u64) -> usize {
