@@ -10,17 +10,22 @@ _swistopal() {
     case ${COMP_WORDS[1]} in
         demo) options='--help' ;;
         list) options='--from --limit --topic --from-time --to-time --resync --long --json --jsonl --end --segment-size --help' ;;
-        rebuild) options='--queues --budget --batch --entries --slots --items --force --restart --json --end --segment-size --help' ;;
+        rebuild) options='--into --force --shorten --after-crash --queues --budget --batch --entries --slots --items --restart --json --end --segment-size --help' ;;
         query) options='--topic --key --unique-key --from --to --limit --body --scan --json --jsonl --slots --end --segment-size --help' ;;
         queue) options='--topic --queue --start --limit --tag --body --json --jsonl --end --segment-size --help' ;;
         show) options='--raw --json --end --segment-size --help' ;;
-        check) options='--queues --slots --json --end --segment-size --help' ;;
+        check) options='--bodies --queues --slots --items --json --jsonl --end --segment-size --help' ;;
         *) return ;;
     esac
     case $before in
         --queues)
             compopt -o filenames 2> /dev/null
             mapfile -t COMPREPLY < <(compgen -f -- "$word")
+            return
+            ;;
+        --into)
+            compopt -o filenames 2> /dev/null
+            mapfile -t COMPREPLY < <(compgen -d -- "$word")
             return
             ;;
         --topic)
@@ -37,7 +42,7 @@ _swistopal() {
             done
             return
             ;;
-        --json | --jsonl | --long | --resync | --body | --scan | --raw | --force | --restart | --help) ;;
+        --json | --jsonl | --long | --resync | --body | --bodies | --scan | --raw | --force | --shorten | --after-crash | --restart | --help) ;;
         --*) return ;;
     esac
     if [[ $word == -* ]]; then

@@ -46,19 +46,25 @@ any other file, and standard input, starts where its first record says. Zeros up
 ";
 
 pub const REBUILD: &str = "\
-swistopal rebuild DIR [--queues FILE] [--budget N] [--slots K] [--items N]
+swistopal rebuild DIR [--into DIR] [--force] [--shorten] [--queues FILE] [--budget N] [--slots K] [--items N]
 
 Makes DIR/consumequeue and DIR/index from DIR/commitlog. It works in DIR/swistopal.rebuild and puts the results into
-their places at the end; it can be stopped at any time, even by a power cut, and the same command goes on. Damage in the
-log ends the rebuild there: what is before it is put in place, and the exit status is 1.
+their places at the end; it can be stopped at any time, even by a power cut, and the same command goes on. What is in the
+way of the results is never deleted. It refuses where a broker holds the store's lock, and no option overrides that.
 
+  --into DIR           the results and all else that is written go to this folder, which is made if it is not there; the
+                       log is only read, and a link to it is put there, so that the folder is asked as a store is
+  --force              put the results into the places of a consumequeue and index that are there, and keep those beside
+                       them, with the time in their names, as consumequeue.2026-03-02T05-58-00Z; only you remove them
+  --shorten            put results in place that have fewer entries or items than are there, or that end where the log is
+                       damaged or a segment is missing; otherwise that is refused
+  --after-crash        go on though a file `abort` says that a broker did not end in order; none may be running anywhere
   --queues FILE        the queues, a line `TOPIC QUEUE` for each, 1 to 16; otherwise those of the log, in its order
   --budget N           at most N steps now; more to come is stop 9
-  --batch N            steps that are kept together, 65,536 otherwise; a crash costs the time of one batch at most
+  --batch N            steps that are kept together, 2,097,152 otherwise; a crash costs the time of one batch at most
   --entries R          entries of a queue's file, 1 to 300,000; otherwise 300,000, as RocketMQ has it
   --slots K            slots of the index, 1 to 5,000,000; otherwise 5,000,000, as RocketMQ has it
   --items N            items of the index, 2 to 20,000,000; otherwise 20,000,000, as RocketMQ has it
-  --force              replace a consumequeue or index that is there
   --restart            begin anew and forget a rebuild that is under way
   --json               one object
   --end POSITION, --segment-size S   as for list

@@ -138,7 +138,7 @@ const COMMANDS: [Command; 7] = [
         name: "check",
         help: help::CHECK,
         flags: &["--json", "--jsonl", "--bodies"],
-        values: &["--queues", "--slots", "--segment-size", "--end"],
+        values: &["--queues", "--slots", "--items", "--segment-size", "--end"],
         run: check::run,
     },
 ];

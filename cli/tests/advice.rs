@@ -326,10 +326,10 @@ fn a_full_queue_or_index_leads_on() {
                 "--restart"
             };
             let options = [&small[..], &["--slots", "97", "--force"]].concat();
-            tool("rebuild", &store, &options).is(
-                1,
-                &format!("begin anew with --restart and more {more}; the same command with --end "),
-            );
+            let rebuild = tool("rebuild", &store, &options);
+            rebuild.is(1, &format!("begin anew with --restart and more {more}"));
+            let end = "the same command with --end ";
+            assert_eq!(rebuild.err.contains(end), !replacing, "{}", rebuild.err);
             let check = faulty(&store, &[]);
             check.shows(&format!("begin anew with {anew} and more {more}"));
             hides(&check, "go on with the rebuild");

@@ -85,7 +85,10 @@ fn damage_in_the_log() {
         )
         .is(1, "an entry names position 6696");
         assert_eq!(files(&store), before);
-        let rebuild = tool("rebuild", &store, &[&SMALL[..], &["--force"]].concat());
+        let force = [&SMALL[..], &["--force"]].concat();
+        tool("rebuild", &store, &force).is(1, "the log stops at 6696 with 10");
+        assert_eq!(files(&store), before);
+        let rebuild = tool("rebuild", &store, &[&force[..], &["--shorten"]].concat());
         rebuild
             .is(1, "the log stops at 6696 with 10")
             .shows("steps     35, up to position 6696");
@@ -134,7 +137,8 @@ fn files_of_wrong_lengths() {
         .shows("\nstop 0\n");
     cut(&segment(&store, 65_536), 83_658 - 65_536 - 1);
     tool("list", &store, &[]).is(1, "with 8: the record is not wholly below the readable end");
-    tool("rebuild", &store, &[&SMALL[..], &["--force"]].concat()).is(1, "steps     438");
+    let shorten = [&SMALL[..], &["--force", "--shorten"]].concat();
+    tool("rebuild", &store, &shorten).is(1, "steps     438");
     // Only one segment, cut: its size is told.
     fs::remove_file(segment(&store, 65_536)).unwrap();
     cut(&segment(&store, 0), 5000);
@@ -148,7 +152,7 @@ fn files_of_wrong_lengths() {
     let store = stores.copy();
     fs::remove_file(segment(&store, 65_536)).unwrap();
     tool("check", &store, &[]).is(1, "the segment at 65536 is missing before it");
-    tool("rebuild", &store, &[&SMALL[..], &["--force"]].concat()).is(1, "up to position 65536");
+    tool("rebuild", &store, &shorten).is(1, "up to position 65536");
     let store = stores.copy();
     cut(&segment(&store, 65_536), 65_537);
     tool("list", &store, &[]).is(1, "65,537 bytes, though a segment has 65,536");

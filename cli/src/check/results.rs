@@ -3,9 +3,9 @@
 use crate::args::Args;
 use crate::failure::Failure;
 use crate::files::{Refused, Unfit};
-use crate::index::{self, Index, MOST_SLOTS};
+use crate::index::{self, item_place, Index, MOST_ITEMS, MOST_SLOTS};
 use crate::queues::{self, Queue};
-use swistopal::{query, Answer, LogPosition, Query};
+use swistopal::{query, Answer, IndexGeometry, LogPosition, Query};
 
 pub struct Results {
     /// Those whose header is good and that have an item.
@@ -14,9 +14,20 @@ pub struct Results {
     pub empty: Vec<String>,
     /// Index files that cannot be compared.
     pub refused: Vec<Refused>,
+    /// Index files that are shorter than they were made.
+    pub cut: Vec<Cut>,
     pub on_disk: Vec<Queue>,
     /// Why the folder of the queues cannot be read.
     pub unreadable: Option<String>,
+}
+
+/// An index file that was cut short, though all of its items may be there.
+pub struct Cut {
+    pub name: String,
+    pub bytes: u64,
+    pub whole: u64,
+    /// How many items it has room for.
+    pub items: u64,
 }
 
 impl Results {
@@ -26,6 +37,7 @@ impl Results {
             indexes: Vec::new(),
             empty: Vec::new(),
             refused: Vec::new(),
+            cut: Vec::new(),
             on_disk: Vec::new(),
             unreadable: None,
         };
@@ -37,12 +49,36 @@ impl Results {
             }
             Err(refused) => results.refused.push(refused),
         }
+        results.find_cut(args.number_within("--items", 2, MOST_ITEMS)?);
         match queues::on_disk(args.place()) {
             Ok(on_disk) => results.on_disk = on_disk,
             Err(Failure::Fault(sentence)) => results.unreadable = Some(sentence),
             Err(other) => return Err(other),
         }
         Ok(results)
+    }
+
+    /// An index of RocketMQ's slots has RocketMQ's items too, unless other ones were asked for; and index files of the same
+    /// slots are of the same length.
+    fn find_cut(&mut self, asked: Option<u64>) {
+        for index in &self.indexes {
+            let IndexGeometry { slots, items } = index.geometry;
+            let alike = self.indexes.iter().map(|other| other.geometry);
+            let alike = alike.filter(|other| other.slots == slots);
+            let most = alike.map(|other| other.items).max().unwrap_or(items);
+            let most = match (slots, asked) {
+                (MOST_SLOTS, None) => MOST_ITEMS,
+                (_, asked) => asked.unwrap_or(most),
+            };
+            if items < most {
+                self.cut.push(Cut {
+                    name: index.name.clone(),
+                    bytes: item_place(slots, items),
+                    whole: item_place(slots, most),
+                    items,
+                });
+            }
+        }
     }
 
     fn take(&mut self, opened: Result<Index, Refused>) {

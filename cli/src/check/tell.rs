@@ -94,7 +94,7 @@ pub fn bodies(survey: &Survey, report: &mut Report) {
         return;
     };
     let sentence = format!(
-        "{} of {} as their checksums say, {} bytes",
+        "{} of {} as the checksums say, {} bytes",
         grouped(bodies.judged - bodies.damaged.len() as u64),
         counted(bodies.judged, "body", "bodies"),
         grouped(bodies.bytes)

@@ -261,6 +261,16 @@ fn index(compared: &Compared, results: &Results, reach: &Reach, report: &mut Rep
             tell::items(merge.given, report);
         }
     }
+    for cut in &results.cut {
+        let (bytes, whole) = (grouped(cut.bytes), grouped(cut.whole));
+        let sentence = format!(
+            "{}: {bytes} bytes of {whole}; it is cut short, unless it was made with --items {}: name that here too, then",
+            cut.name, cut.items
+        );
+        let finding = fault("index", "cut", sentence).text("name", &cut.name);
+        let finding = finding.number("bytes", cut.bytes);
+        report.add(finding.number("bytes_whole", cut.whole));
+    }
     for name in &results.empty {
         let sentence = format!("{name}: no item yet");
         report.add(sound("index", "empty", sentence).text("name", name));

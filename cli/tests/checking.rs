@@ -1,0 +1,313 @@
+//! What `check` says to machines, and what it says where something strange stands in a file's place.
+
+mod common;
+
+use common::broker::*;
+use common::*;
+use std::fs::{self, OpenOptions};
+use std::os::unix::fs::symlink;
+use std::path::Path;
+use std::process::{Command, Stdio};
+use std::thread::sleep;
+use std::time::Duration;
+
+const SOUND: &str = "nothing: the store is sound";
+
+fn cut(path: &Path, length: u64) {
+    let file = OpenOptions::new().write(true).open(path).unwrap();
+    file.set_len(length).unwrap();
+}
+
+/// The findings of one kind.
+fn of_kind<'j>(json: &'j Json, kind: &str) -> Vec<&'j Json> {
+    let findings = json.get("findings").list().iter();
+    let kind = Json::Text(String::from(kind));
+    findings.filter(|one| one.get("kind") == &kind).collect()
+}
+
+#[track_caller]
+fn numbers(finding: &Json, values: &[(&str, u64)]) {
+    for (name, value) in values {
+        assert_eq!(finding.get(name).number(), *value, "{name} of {finding:?}");
+    }
+}
+
+#[test]
+fn numbers_are_numbers() {
+    let folder = Folder::new("check-json");
+    let store = built(&folder, "store");
+    let check = || tool("check", &store, &["--json"]).json();
+    let json = check();
+    assert_eq!(json.get("sound"), &Json::Truth(true));
+    assert_eq!(json.get("limited"), &Json::Truth(false));
+    numbers(
+        of_kind(&json, "log")[0],
+        &[
+            ("segments", 3),
+            ("segment_size", 65_536),
+            ("records", 438),
+            ("blanks", 1),
+        ],
+    );
+    numbers(of_kind(&json, "end")[0], &[("position", 83_658)]);
+    numbers(
+        of_kind(&json, "queues")[0],
+        &[("queues", 7), ("same", 7), ("entries", 438)],
+    );
+    numbers(
+        of_kind(&json, "index")[0],
+        &[("items", 1294), ("most_items", 2999), ("slots", 97)],
+    );
+
+    // Both values wherever something differs.
+    edit(&queue_file(&store, "SORTER_TRIM", 0), |bytes| {
+        bytes[5 * 20 + 7] ^= 1
+    });
+    edit(&index_file(&store), |bytes| {
+        bytes[40 + 4 * 97 + 20 * 700 + 3] ^= 1
+    });
+    let json = check();
+    assert_eq!(json.get("sound"), &Json::Truth(false));
+    let [entry, item] = of_kind(&json, "differs")[..] else {
+        panic!("{json:?}");
+    };
+    let position = entry.get("position_by_log").number();
+    numbers(
+        entry,
+        &[("entry", 5), ("position", position ^ 1), ("entries", 1)],
+    );
+    assert_eq!(entry.get("topic"), &Json::Text(String::from("SORTER_TRIM")));
+    let hash = item.get("hash_by_log").number();
+    numbers(item, &[("item", 700), ("hash", hash ^ 1), ("items", 1)]);
+    let next = json.get("next").list();
+    let Json::Text(command) = next[0].get("command") else {
+        panic!("{next:?}");
+    };
+    assert!(command.starts_with("swistopal rebuild "), "{command}");
+
+    // Damage, and what is missing.
+    edit(&segment(&store, 0), |bytes| bytes[6696 + 4] ^= 1);
+    fs::remove_dir_all(store.join("index")).unwrap();
+    let json = check();
+    numbers(
+        of_kind(&json, "damage")[0],
+        &[("position", 6696), ("goes_on", 6888), ("answer", 10)],
+    );
+    numbers(
+        of_kind(&json, "behind-damage")[0],
+        &[("records", 402), ("blanks", 1)],
+    );
+    numbers(&json.get("missing").list()[0], &[("items_by_log", 1291)]);
+}
+
+#[test]
+fn limits_are_numbers_too() {
+    let folder = Folder::new("check-limits");
+    let mut broker = Broker::new(&folder.join("store"));
+    for number in 0..40 {
+        broker.put(Message {
+            queue_id: number % 20,
+            delay_level: usize::from(number == 39),
+            ..Message::default()
+        });
+    }
+    let store = broker.finish();
+    let json = tool("check", &store, &["--json"]).is(0, "").json();
+    assert_eq!(json.get("limited"), &Json::Truth(true));
+    let limits: Vec<&Json> = json.get("findings").list().iter().collect();
+    let limits = limits
+        .iter()
+        .filter(|one| one.get("limit") == &Json::Truth(true));
+    assert_eq!(limits.count(), 2);
+    let json_queues = json.get("findings").list().iter();
+    let queues = json_queues.filter(|one| one.get("part") == &Json::Text(String::from("limit")));
+    let queues: Vec<&Json> = queues.collect();
+    numbers(queues[0], &[("queues", 21), ("most", 16)]);
+    numbers(queues[1], &[("records", 1)]);
+}
+
+#[test]
+fn each_line_is_an_object() {
+    let folder = Folder::new("check-jsonl");
+    let store = built(&folder, "store");
+    edit(&segment(&store, 0), |bytes| bytes[6696 + 4] ^= 1);
+    let check = tool("check", &store, &["--jsonl"]);
+    check.is(1, "");
+    let lines: Vec<Json> = check.out.lines().map(Json::parse).collect();
+    let parts: Vec<&Json> = lines.iter().map(|line| line.get("part")).collect();
+    let part = |name: &str| Json::Text(String::from(name));
+    assert_eq!(parts[0], &part("log"));
+    assert!(parts.contains(&&part("next")));
+    let last = lines.last().unwrap();
+    assert_eq!(last.get("part"), &part("end"));
+    assert_eq!(last.get("sound"), &Json::Truth(false));
+}
+
+#[test]
+fn an_index_that_was_cut_is_not_sound() {
+    let folder = Folder::new("check-cut");
+    let store = folder.join("store");
+    tool("demo", &store, &[]).is(0, "");
+    tool("rebuild", &store, &[]).is(0, "");
+    let index = index_file(&store);
+    for length in [300_000_040, 200_000_040, 20_026_000] {
+        cut(&index, length);
+        let check = tool("check", &store, &[]);
+        check.is(1, "420,000,040; it is cut short");
+        assert!(!check.out.contains(SOUND), "{}", check.out);
+    }
+    // Where its items are cut, none is asked.
+    cut(&index, 20_020_040);
+    assert_eq!(tool("check", &store, &[]).status, 1);
+
+    // One that was made so is said to be so.
+    tool("rebuild", &store, &["--force", "--items", "2000"]).is(0, "");
+    tool("check", &store, &[]).is(1, "unless it was made with --items 2000");
+    tool("check", &store, &["--items", "2000"]).is(0, SOUND);
+
+    // Of several, all have one length.
+    let mut broker = Broker::new(&folder.join("rolled")).slots(10).items(40);
+    for number in 0..50 {
+        broker.put(Message {
+            uniq_key: &format!("U{number}"),
+            ..Message::default()
+        });
+    }
+    let store = broker.finish();
+    tool("check", &store, &[]).is(0, SOUND);
+    let mut paths: Vec<_> = fs::read_dir(store.join("index"))
+        .unwrap()
+        .map(|one| one.unwrap().path())
+        .collect();
+    paths.sort();
+    cut(&paths[1], 40 + 4 * 10 + 20 * 20);
+    tool("check", &store, &[]).is(1, "480 bytes of 880; it is cut short");
+}
+
+#[test]
+fn what_cannot_be_read_is_not_missing() {
+    let folder = Folder::new("check-unreadable");
+    let sound = built(&folder, "sound");
+    let mut made = 0;
+    let mut copy_of = || {
+        made += 1;
+        let store = folder.join(&format!("copy-{made}"));
+        copy(&sound, &store);
+        store
+    };
+    let unreadable = |store: &Path, said: &str| {
+        let check = tool("check", store, &[]);
+        check.is(1, said);
+        for wrong in ["! missing", "swistopal rebuild", "not there", SOUND] {
+            assert!(!check.out.contains(wrong), "{wrong} in {}", check.out);
+        }
+        check.shows("have what cannot be read made readable");
+    };
+    // Links that lead to themselves cannot be followed by anyone.
+    for name in ["index", "consumequeue", "consumequeue/SORTER_TRIM/0"] {
+        let store = copy_of();
+        fs::remove_dir_all(store.join(name)).unwrap();
+        symlink(store.join(name), store.join(name)).unwrap();
+        unreadable(&store, "Too many levels of symbolic links");
+        let store = copy_of();
+        fs::remove_dir_all(store.join(name)).unwrap();
+        fs::write(store.join(name), "a file").unwrap();
+        unreadable(&store, "a folder should stand there");
+    }
+    let store = copy_of();
+    let index = index_file(&store);
+    fs::remove_file(&index).unwrap();
+    symlink(&index, &index).unwrap();
+    unreadable(&store, "Too many levels of symbolic links");
+}
+
+#[test]
+fn folders_and_pipes_are_no_files() {
+    let folder = Folder::new("check-pipes");
+    let sound = built(&folder, "sound");
+    let pipe = |path: &Path| {
+        let made = Command::new("mkfifo").arg(path).status().unwrap();
+        assert!(made.success());
+    };
+    let makers: [(&str, &dyn Fn(&Path)); 2] = [
+        ("a folder", &|path| fs::create_dir(path).unwrap()),
+        ("a pipe", &pipe),
+    ];
+    for (number, (what, make)) in makers.into_iter().enumerate() {
+        for place in 0..2 {
+            let store = folder.join(&format!("copy-{number}-{place}"));
+            copy(&sound, &store);
+            let path = match place {
+                0 => index_file(&store),
+                _ => queue_file(&store, "SORTER_TRIM", 0),
+            };
+            fs::remove_file(&path).unwrap();
+            make(&path);
+            let check = tool("check", &store, &[]);
+            check.is(
+                1,
+                &format!("{}: {what} stands in the place of a file", path.display()),
+            );
+            assert!(!check.out.contains("swistopal rebuild"), "{}", check.out);
+        }
+    }
+}
+
+#[test]
+fn commands_are_quoted_for_a_shell() {
+    let folder = Folder::new("check-quotes");
+    for name in [
+        "two words",
+        "it's; touch harm",
+        "-x",
+        "$(touch harm)",
+        "a\u{202e}b",
+        "new\nline",
+    ] {
+        let place = folder.join(name);
+        tool("demo", &place, &[]).is(0, "");
+        let check = tool("check", &place, &[]);
+        check.is(1, ": swistopal rebuild ");
+        let (_, call) = check.out.split_once(": swistopal ").unwrap();
+        let call = call.lines().next().unwrap();
+        shell(&format!("swistopal {call} --slots 97 --items 3000")).is(0, "stop      0");
+        tool("check", &place, &[]).is(0, SOUND);
+    }
+    assert!(!Path::new("harm").exists());
+}
+
+/// A check that takes long says how far it is, on each of its walks over the log.
+#[test]
+fn progress_is_told() {
+    let folder = Folder::new("check-progress");
+    let store = folder.join("store");
+    made(&store, 0, 1 << 25, 250_000, |position, number| {
+        record(position, b"T", (number as u32 % 17, number / 17), 1000, b"")
+    });
+    // It is held for longer than the time between two lines; where, is not known beforehand.
+    let told = [50, 10, 100, 200, 20].into_iter().any(|before| {
+        let child = Command::new(TOOL)
+            .arg("check")
+            .arg(&store)
+            .stdout(Stdio::null())
+            .stderr(Stdio::piped())
+            .spawn()
+            .unwrap();
+        let signal = |name: &str| {
+            let id = child.id().to_string();
+            Command::new("kill").args([name, &id]).status().unwrap()
+        };
+        sleep(Duration::from_millis(before));
+        signal("-STOP");
+        sleep(Duration::from_millis(2100));
+        signal("-CONT");
+        let said = child.wait_with_output().unwrap().stderr;
+        let said = String::from_utf8(said).unwrap();
+        assert!(
+            said.lines().all(|line| line.starts_with("swistopal: ")),
+            "{said}"
+        );
+        said.contains("% ") || said.contains("%,")
+    });
+    assert!(told);
+}
