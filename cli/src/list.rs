@@ -214,6 +214,7 @@ impl Listing {
             .number("damaged_parts", damage().count() as u64)
             .number("damaged_bytes", damage().map(Skipped::bytes).sum())
             .raw("hints", &strings(hints))
+            .raw("limits", &strings(&log.limits))
             .raw("faults", &strings(&log.faults));
         if self.results.is_text() {
             let text = self.results.text();
