@@ -227,11 +227,11 @@ impl Listing {
     }
 
     fn tell(&self) {
-        for skipped in &self.skipped {
-            let sentence = skipped.sentence();
-            match skipped.is_damage() {
-                true => note(&format!("passed over: {sentence}")),
-                false => note(&format!("left out: {sentence}")),
+        let parts = self.skipped.iter().copied();
+        let (damaged, left_out): (Vec<Skipped>, Vec<Skipped>) = parts.partition(Skipped::is_damage);
+        for (what, parts) in [("passed over", damaged), ("left out", left_out)] {
+            if let Some(sentence) = log::sentence_on(&parts) {
+                note(&format!("{what}: {sentence}"));
             }
         }
     }

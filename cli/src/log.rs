@@ -4,7 +4,7 @@ mod before;
 mod on;
 mod segments;
 
-pub use on::{Cause, Met, Place, Skipped};
+pub use on::{sentence_on, Cause, Met, Place, Skipped};
 pub use segments::{numbered_name, LAST_END};
 
 use crate::args::Args;

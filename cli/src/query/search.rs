@@ -2,7 +2,7 @@
 
 use crate::failure::Failure;
 use crate::index::{Bytes, Index};
-use crate::log::{Log, Met, Place, Skipped, LAST_END};
+use crate::log::{self, Log, Met, Place, Skipped, LAST_END};
 use crate::properties::{has_items, Names};
 use crate::record::{self, LeftOut, Read};
 use crate::text::{counted, grouped};
@@ -222,6 +222,7 @@ impl<'a> Search<'a> {
     /// Looks through the log from a position on.
     pub fn scan(&mut self, from: LogPosition) -> Result<(), Failure> {
         let log = self.log;
+        let mut passed_over = Vec::new();
         log.walk_on(from, |met| {
             match met {
                 Met::Entry {
@@ -239,10 +240,11 @@ impl<'a> Search<'a> {
                         });
                     }
                 }
-                Met::Skipped(skipped) => self.tell_passed_over(&skipped),
+                Met::Skipped(skipped) => passed_over.push(skipped),
             }
             Ok(true)
         })?;
+        self.tell_passed_over(passed_over);
         Ok(())
     }
 
@@ -252,15 +254,18 @@ impl<'a> Search<'a> {
         }
     }
 
-    fn tell_passed_over(&mut self, skipped: &Skipped) {
-        self.passed_over(skipped);
-        let sentence = skipped.sentence();
-        match skipped.is_damage() {
-            true => self.faults.push(format!(
-                "the log cannot be read {sentence}; what is behind was looked through"
-            )),
-            false => self.limits.push(format!("left out {sentence}")),
-        }
+    /// What was passed over while the log was looked through.
+    fn tell_passed_over(&mut self, parts: Vec<Skipped>) {
+        parts.iter().for_each(|skipped| self.passed_over(skipped));
+        let (damaged, left_out): (Vec<Skipped>, Vec<Skipped>) =
+            parts.into_iter().partition(Skipped::is_damage);
+        let damaged = log::sentence_on(&damaged).map(|sentence| {
+            format!("the log cannot be read {sentence}; what is behind was looked through")
+        });
+        self.faults.extend(damaged);
+        let left_out = log::sentence_on(&left_out);
+        self.limits
+            .extend(left_out.map(|sentence| format!("left out {sentence}")));
     }
 
     /// Looks through the part of the log that the index does not reach: from the last record that has an item on. That there
@@ -278,6 +283,7 @@ impl<'a> Search<'a> {
         let start = self.start_behind(start, name)?;
         let position = self.read_on(start, &mut missed);
         if !log.ends_at(position) {
+            let mut passed_over = Vec::new();
             log.walk_on(position, |met| {
                 match met {
                     Met::Entry {
@@ -285,10 +291,11 @@ impl<'a> Search<'a> {
                         entry,
                         behind,
                     } => self.see_behind(position, entry, behind, &mut missed),
-                    Met::Skipped(skipped) => self.tell_passed_over(&skipped),
+                    Met::Skipped(skipped) => passed_over.push(skipped),
                 }
                 Ok(true)
             })?;
+            self.tell_passed_over(passed_over);
         }
         if let Some(first) = missed.first {
             let reach = match last {
