@@ -1,4 +1,5 @@
-//! The command line: `--name value`, `--name=value`, flags, and one place. Values are bytes, as keys may be any.
+//! The command line: `--name value`, `--name=value`, flags, and one place, which a second word may follow. Values are bytes, as
+//! keys may be any.
 
 use crate::failure::{usage, Failure};
 use crate::text::shown;
@@ -9,19 +10,23 @@ use std::path::{Path, PathBuf};
 
 pub struct Args {
     place: PathBuf,
+    second: Option<OsString>,
     flags: Vec<&'static str>,
     values: Vec<(&'static str, OsString)>,
 }
 
 impl Args {
+    /// `second` is what the word behind the place is, for a command that takes one.
     pub fn parse(
         mut words: impl Iterator<Item = OsString>,
         flags: &[&'static str],
         values: &[&'static str],
+        second: Option<&str>,
     ) -> Result<Args, Failure> {
         let mut place = None;
         let mut given = Args {
             place: PathBuf::new(),
+            second: None,
             flags: Vec::new(),
             values: Vec::new(),
         };
@@ -33,8 +38,15 @@ impl Args {
                 continue;
             }
             if only_places || !bytes.starts_with(b"-") || bytes == b"-" {
-                if place.replace(PathBuf::from(&word)).is_some() {
-                    return usage(format!("{}: one place is enough", shown(bytes)));
+                match (&place, second, &given.second) {
+                    (None, _, _) => place = Some(PathBuf::from(&word)),
+                    (Some(_), Some(_), None) => given.second = Some(word),
+                    (Some(_), Some(second), Some(_)) => {
+                        return usage(format!("{}: one {second} is enough", shown(bytes)));
+                    }
+                    (Some(_), None, _) => {
+                        return usage(format!("{}: one place is enough", shown(bytes)));
+                    }
                 }
                 continue;
             }
@@ -67,9 +79,19 @@ impl Args {
                 return usage(format!("no such option: {}", shown(name)));
             }
         }
-        match place {
-            Some(place) => Ok(Args { place, ..given }),
-            None => usage("which folder?"),
+        match (place, second) {
+            (Some(_), Some(second)) if given.second.is_none() => usage(format!("which {second}?")),
+            (Some(place), _) => Ok(Args { place, ..given }),
+            (None, _) => usage("which folder?"),
+        }
+    }
+
+    /// The word behind the place, as a number.
+    pub fn second_number(&self) -> Result<u64, Failure> {
+        let word = self.second.as_deref().unwrap_or_default();
+        match word.to_str().and_then(number) {
+            Some(number) => Ok(number),
+            None => usage(format!("{}: a number is needed", shown(word.as_bytes()))),
         }
     }
 

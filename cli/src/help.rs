@@ -6,8 +6,9 @@ swistopal: look into a RocketMQ store folder, and rebuild its queues and its ind
   swistopal demo DIR       make a small store of a parcel sorter
   swistopal list DIR|FILE  list the records of the commit log or of one segment
   swistopal rebuild DIR    make consume queues and index from the commit log
-  swistopal query DIR      find records by topic and key, newest first
+  swistopal query DIR      find records by key, newest first
   swistopal queue DIR      show the records of one queue, in order
+  swistopal show DIR POSITION  show one record whole
   swistopal check DIR      say what is sound, where it stops, what is missing and what to do next
 
 swistopal COMMAND --help says more; --version gives the version.
@@ -23,18 +24,25 @@ seven queues, the same bytes each time. DIR must not be there yet, or be empty.
 ";
 
 pub const LIST: &str = "\
-swistopal list DIR|FILE [--from POSITION] [--limit N] [--long] [--json]
+swistopal list DIR|FILE|- [--from POSITION] [--limit N] [--topic T] [--resync] [--long] [--json]
 
-Lists the records and blanks of a store's commit log or of one segment file: position, length, queue and store time in
-milliseconds, then the number of the answer that ended it. A file's name of 20 digits is its first position; any other
-file starts at 0. Zeros up to the end of the files are the log's end.
+Lists the records and blanks of a store's commit log, of one segment file or of standard input: position, length, queue and
+store time in milliseconds, then the number of the answer that ended it. A file's name of 20 digits is its first position;
+any other file, and standard input, starts where its first record says. Zeros up to the end of the files are the log's end.
 
   --from POSITION      start at this record
-  --limit N            at most N lines; more to come is stop 9
+  --limit N            at most N of them; if more follow, that is told
+  --topic T            only records of this topic
+  --from-time TIME     only records not stored before; milliseconds, or RFC 3339 as 2026-03-02T06:00:00Z
+  --to-time TIME       only records not stored after
+  --resync             go on behind damage, from the next place where a record or a blank stands, also where a segment is
+                       missing; what is passed over has a line of its own, what is read behind it is marked
   --long               time also in RFC 3339, with topic, tags and keys
   --json               one object
+  --jsonl              JSON Lines: an object for each line, the last one says how it ended
   --end POSITION       read up to here; zeros before it are then damage
-  --segment-size S     if the first segment is cut short and its size cannot be told from the files
+  --segment-size S     if the first segment is cut short and its size cannot be told from the files, or if standard input
+                       has several segments
 ";
 
 pub const REBUILD: &str = "\
@@ -63,17 +71,22 @@ way of the results is never deleted. It refuses where a broker holds the store's
 ";
 
 pub const QUERY: &str = "\
-swistopal query DIR --topic T --key K [--from TIME] [--to TIME] [--limit N] [--body] [--json]
+swistopal query DIR --key K [--topic T] [--from TIME] [--to TIME] [--limit N] [--body] [--scan] [--json]
 
-Finds the records of a topic that carry a key, among KEYS or as UNIQ_KEY, newest first. Each one is read back from the
-log: one that only shares the key's hash is left out and counted, one that does not stand in the log is a fault.
+Finds the records that carry a key, among KEYS or as UNIQ_KEY, newest first. Each one is read back from the log: one that
+only shares the key's hash is left out and counted, one that does not stand in the log is a fault. What the index does not
+reach is looked through in the log, behind damage too; records that are read behind damage are marked.
 
-  --topic T, --key K   any bytes
+  --key K              any bytes
+  --unique-key K       the same, only as UNIQ_KEY
+  --topic T            in this topic; otherwise in all of the store, for which the whole log is read once
   --from TIME          not stored before; milliseconds, or RFC 3339 as 2026-03-02T06:00:00Z
   --to TIME            not stored after
-  --limit N            at most N records, 32 otherwise
-  --body               also the body
+  --limit N            at most N records, 32 otherwise; if there are more, that is told
+  --body               also the body; one that does not match its checksum is a fault
+  --scan               look through the whole log instead of asking the index
   --json               one object
+  --jsonl              JSON Lines: an object for each record, the last line has the rest
   --slots K            slots of the index, if they cannot be told from the file
   --end POSITION, --segment-size S   as for list
 ";
@@ -81,13 +94,25 @@ log: one that only shares the key's hash is left out and counted, one that does 
 pub const QUEUE: &str = "\
 swistopal queue DIR --topic T --queue N [--start N] [--limit N] [--tag TAG] [--body] [--json]
 
-Shows the records of one queue in order, each one read back from the log.
+Shows the records of one queue in order, each one read back from the log. Those that are read behind damage are marked.
 
   --topic T, --queue N the queue
   --start N            from this entry on
-  --limit N            at most N records
+  --limit N            at most N records; how many more there are is told
   --tag TAG            only entries with this tag's code
-  --body               also the body
+  --body               also the body; one that does not match its checksum is a fault
+  --json               one object
+  --jsonl              JSON Lines: an object for each record, the last line has the rest
+  --end POSITION, --segment-size S   as for list
+";
+
+pub const SHOW: &str = "\
+swistopal show DIR|FILE POSITION [--raw] [--json]
+
+Shows one record whole: every field, hosts as addresses, properties as a table, tags, keys, whether the body matches its
+checksum, and the body as text or, where it is none, as hexadecimal digits. A position inside a record shows that record.
+
+  --raw                the body's bytes alone
   --json               one object
   --end POSITION, --segment-size S   as for list
 ";

@@ -6,10 +6,10 @@ use crate::form::{Form, Results};
 use crate::log::{self, End, Log, Met, Place, Skipped, Why};
 use crate::note;
 use crate::record::{self, Read, With};
-use crate::text::{array, string, Object};
+use crate::text::{strings, Object};
 use crate::wanted::{seconds, Wanted};
 use std::io::Write;
-use swistopal::{Entry, LogPosition};
+use swistopal::{Answer, Entry, LogPosition};
 
 const LONG: With = With {
     topic: true,
@@ -51,7 +51,9 @@ pub fn run(args: &Args) -> Result<Outcome, Failure> {
     if stopped {
         end = log.walk(end.position, |_, _| Ok(true))?;
     }
-    listing.end(&log, &end, cut)?;
+    let mut hints = seconds(args, &["--from-time", "--to-time"]);
+    hints.extend(wanted.hints("the log"));
+    listing.end(&log, &end, cut, &hints)?;
     if cut {
         let next = end.position.0;
         note(&format!(
@@ -60,8 +62,14 @@ pub fn run(args: &Args) -> Result<Outcome, Failure> {
     } else if !end.sound() || end.why == Why::Zeros {
         note(&format!("the log {}", end.sentence()));
     }
-    log::tell(&seconds(args, &["--from-time", "--to-time"]));
-    wanted.tell_if_none("the log");
+    if end.answer == Answer::NotReadable && args.value("--end").is_some() {
+        hints.push(format!(
+            "--end {} is inside the record at {}",
+            log.end().0,
+            end.position.0
+        ));
+    }
+    log::tell(&hints);
     listing.tell();
     log::tell(&log.faults);
     log::tell(&log.limits);
@@ -192,8 +200,7 @@ impl Listing {
         self.skipped.iter().any(Skipped::is_damage)
     }
 
-    fn end(&mut self, log: &Log, end: &End, cut: bool) -> Result<(), Failure> {
-        let faults: Vec<String> = log.faults.iter().map(|text| string(text)).collect();
+    fn end(&mut self, log: &Log, end: &End, cut: bool, hints: &[String]) -> Result<(), Failure> {
         let damage = || self.skipped.iter().filter(|skipped| skipped.is_damage());
         let sentence = match cut {
             true => String::from("cut at --limit"),
@@ -206,7 +213,8 @@ impl Listing {
             .truth("more", cut)
             .number("damaged_parts", damage().count() as u64)
             .number("damaged_bytes", damage().map(Skipped::bytes).sum())
-            .raw("faults", &array(&faults));
+            .raw("hints", &strings(hints))
+            .raw("faults", &strings(&log.faults));
         if self.results.is_text() {
             let text = self.results.text();
             match cut {

@@ -1,5 +1,6 @@
 //! The commit log of a store folder, or one segment file, as runs of bytes.
 
+mod before;
 mod on;
 mod segments;
 
@@ -11,10 +12,10 @@ use crate::failure::{fault, usage, At, Failure};
 use crate::map::{page_size, View};
 use crate::note;
 use crate::text::{counted, grouped};
-use segments::{Named, Run, Runs, Segment, SEGMENT_SIZES};
+use segments::{Run, Runs, Segment, SEGMENT_SIZES};
 use std::io::{self, Read};
 use std::ops::Deref;
-use std::path::Path;
+use std::path::{Path, PathBuf};
 use swistopal::{read_record, Answer, Entry, LogGeometry, LogPosition};
 
 /// Segments whose size is no multiple of the page size cannot lie side by side as mappings; up to so many bytes are copied.
@@ -40,6 +41,8 @@ struct Stretch {
     geometry: LogGeometry,
     /// Where the files end, or what `--end` says.
     end: LogPosition,
+    /// Its files, if they are mapped.
+    paths: Vec<PathBuf>,
 }
 
 enum Bytes {
@@ -80,18 +83,18 @@ pub enum Why {
 }
 
 impl Log {
-    /// Of a store folder, or of one file. A file whose name is not a position starts at 0.
+    /// Of a store folder, or of one file.
     pub fn open(args: &Args) -> Result<Log, Failure> {
         let place = args.place();
         let asked_size = args.number_within("--segment-size", SEGMENT_SIZES.0, SEGMENT_SIZES.1)?;
-        let named = if place.is_file() {
-            let name = place.file_name().and_then(|name| name.to_str());
-            let first = name.and_then(numbered_name);
-            vec![Named::open(place.to_path_buf(), first.unwrap_or(0))]
+        let (named, size) = if place.is_file() {
+            let (named, size) = segments::one(place, asked_size)?;
+            (vec![named], size)
         } else {
-            segments::found(place)?
+            let named = segments::found(place)?;
+            let size = segments::size(&named, asked_size)?;
+            (named, size)
         };
-        let size = segments::size(&named, asked_size)?;
         let runs = Runs::of(named, size);
         let segments = runs.runs[0].segments.len() as u64;
         let stretches = lend(runs.runs, size)?;
@@ -135,6 +138,7 @@ impl Log {
                 bytes: Bytes::Copied(bytes),
                 geometry,
                 end,
+                paths: Vec::new(),
             }],
             geometry,
             segments,
@@ -349,15 +353,16 @@ fn lend(runs: Vec<Run>, size: u64) -> Result<Vec<Stretch>, Failure> {
     for Run { first, segments } in runs {
         let last = segments.last();
         let end = last.map_or(first, |last| last.first + last.length.min(size));
-        let bytes = if segments.is_empty() {
-            Bytes::Copied(Vec::new())
-        } else if copied {
-            Bytes::Copied(copy(segments, size)?)
+        let (bytes, paths) = if segments.is_empty() || copied {
+            (Bytes::Copied(copy(segments, size)?), Vec::new())
         } else {
-            Bytes::Mapped(map(segments, size)?)
+            let paths = segments.iter().map(|segment| segment.path.clone());
+            let paths = paths.collect();
+            (Bytes::Mapped(map(segments, size)?), paths)
         };
         stretches.push(Stretch {
             bytes,
+            paths,
             geometry: LogGeometry {
                 segment_size: size,
                 first_position: LogPosition(first),

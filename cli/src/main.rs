@@ -27,6 +27,7 @@ mod queues;
 mod rebuild;
 mod record;
 mod shell;
+mod show;
 mod text;
 mod time;
 mod wanted;
@@ -48,7 +49,7 @@ struct Command {
     run: fn(&Args) -> Result<Outcome, Failure>,
 }
 
-const COMMANDS: [Command; 6] = [
+const COMMANDS: [Command; 7] = [
     Command {
         name: "demo",
         help: help::DEMO,
@@ -114,7 +115,7 @@ const COMMANDS: [Command; 6] = [
     Command {
         name: "queue",
         help: help::QUEUE,
-        flags: &["--json", "--body"],
+        flags: &["--json", "--jsonl", "--body"],
         values: &[
             "--topic",
             "--queue",
@@ -125,6 +126,13 @@ const COMMANDS: [Command; 6] = [
             "--end",
         ],
         run: queue::run,
+    },
+    Command {
+        name: "show",
+        help: help::SHOW,
+        flags: &["--json", "--raw"],
+        values: &["--segment-size", "--end"],
+        run: show::run,
     },
     Command {
         name: "check",
@@ -191,7 +199,8 @@ fn run() -> Result<Outcome, Failure> {
     if rest.iter().any(|word| word == "--help" || word == "-h") {
         return print(command.help);
     }
-    let args = Args::parse(rest.into_iter(), command.flags, command.values);
+    let second = (command.name == "show").then_some("position");
+    let args = Args::parse(rest.into_iter(), command.flags, command.values, second);
     let args = args.map_err(|failure| match failure {
         Failure::Usage(sentence) => Failure::Usage(format!(
             "{sentence}; swistopal {} --help says more",

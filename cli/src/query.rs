@@ -10,7 +10,7 @@ use crate::log::{self, Log, Met};
 use crate::note;
 use crate::queues;
 use crate::record::{self, With};
-use crate::text::{array, counted, quoted_path, shown, shown_path, string, Object};
+use crate::text::{counted, quoted_path, shown, shown_path, strings, Object};
 use crate::wanted::{self, times};
 use search::{Asked, Search};
 use std::collections::BTreeSet;
@@ -40,12 +40,13 @@ pub fn run(args: &Args) -> Result<Outcome, Failure> {
         by_index(args, &mut search, &indexes)?;
         hints.extend(hints_on_index(args, &search, &indexes)?);
     }
-    search.arrange();
+    search.arrange()?;
     let body = args.flag("--body");
     if body {
         search.judge_bodies();
     }
     hints.extend(search.cut());
+    hints.extend(record::long_hosts(search.long_hosts, "items of the index"));
     print(form, &search, body, &hints)?;
     search.tell();
     log::tell(&hints);
@@ -187,10 +188,6 @@ fn print(form: Form, search: &Search, body: bool, hints: &[String]) -> Result<()
         }
         record::line(results.text(), found, with)?;
     }
-    let strings = |texts: &[String]| {
-        let texts: Vec<String> = texts.iter().map(|text| string(text)).collect();
-        array(&texts)
-    };
     let tail = Object::new()
         .truth("more", search.more > 0)
         .number("older_than_the_log", search.older)

@@ -3,7 +3,7 @@
 use crate::crc;
 use crate::log::{Cause, Log, Skipped};
 use crate::properties::Names;
-use crate::text::{array, of_bytes, shown, Object};
+use crate::text::{array, grouped, of_bytes, shown, Object};
 use crate::time;
 use std::io::{self, Write};
 use swistopal::{Answer, Entry, LogPosition, Message};
@@ -97,9 +97,7 @@ pub fn checksum_fault(read: &Read) -> Option<String> {
 
 /// Why no record is read at a position that an index or a queue names.
 pub fn not_read(log: &Log, position: LogPosition, answer: Answer) -> String {
-    if log.long_hosts(position).is_some() {
-        String::from("where a record with hosts of 20 bytes (IPv6) stands, which this tool does not read; that is no damage")
-    } else if (log.first()..log.files_end()).contains(&position) && !log.has(position) {
+    if (log.first()..log.files_end()).contains(&position) && !log.has(position) {
         String::from("which no file of the log has that can be read")
     } else {
         let end = match position < log.files_end() {
@@ -139,6 +137,16 @@ pub fn object(read: &Read, with_body: bool) -> String {
             .truth("body_checksum_matches", sound);
     }
     object.end()
+}
+
+/// What is left out as the archive does not read it.
+pub fn long_hosts(count: u64, of: &str) -> Option<String> {
+    (count > 0).then(|| {
+        format!(
+            "{} {of} left out: their records have hosts of 20 bytes (IPv6), which this tool does not read; that is no damage",
+            grouped(count)
+        )
+    })
 }
 
 pub fn kind(entry: &Entry) -> &'static str {

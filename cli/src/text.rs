@@ -188,6 +188,12 @@ pub fn array<T: AsRef<str>>(values: &[T]) -> String {
     text
 }
 
+/// A list of strings.
+pub fn strings(texts: &[String]) -> String {
+    let texts: Vec<String> = texts.iter().map(|text| string(text)).collect();
+    array(&texts)
+}
+
 pub fn string(value: &str) -> String {
     let mut text = String::new();
     push_string(&mut text, value);

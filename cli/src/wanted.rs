@@ -2,7 +2,6 @@
 
 use crate::args::Args;
 use crate::failure::{usage, Failure};
-use crate::note;
 use crate::text::{counted, shown};
 use crate::time;
 use std::collections::BTreeSet;
@@ -103,19 +102,17 @@ impl<'a> Wanted<'a> {
     }
 
     /// Where nothing was taken: what there is instead.
-    pub fn tell_if_none(&self, place: &str) {
+    pub fn hints(&self, place: &str) -> Vec<String> {
+        let mut hints = Vec::new();
         if self.taken > 0 || !self.filters {
-            return;
+            return hints;
         }
-        if let Some(topic) = self
-            .topic
-            .filter(|topic| !self.seen.topics.contains(*topic))
-        {
-            note(&no_topic(place, topic, &self.seen.topics));
+        let topics = &self.seen.topics;
+        if let Some(topic) = self.topic.filter(|topic| !topics.contains(*topic)) {
+            hints.push(no_topic(place, topic, topics));
         }
-        if let Some(sentence) = outside(place, self.times, self.seen.times) {
-            note(&sentence);
-        }
+        hints.extend(outside(place, self.times, self.seen.times));
+        hints
     }
 }
 

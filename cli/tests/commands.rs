@@ -57,7 +57,7 @@ fn options(text: &str) -> Vec<String> {
 fn man_page_and_completion_have_every_option() {
     let man = include_str!("../swistopal.1").replace("\\-", "-");
     let completion = include_str!("../completion.bash");
-    for command in ["demo", "list", "rebuild", "query", "queue", "check"] {
+    for command in ["demo", "list", "rebuild", "query", "queue", "show", "check"] {
         let mut known = options(&bare(&[command, "--help"]).out);
         for option in &known {
             assert!(

@@ -289,3 +289,113 @@ fn missing_short_and_long_segments_hide_no_other() {
         assert_eq!(entries(&run.is(1, sentence).out).0, all[0]);
     }
 }
+
+/// The positions that a query or a queue shows, and which of them are marked.
+fn found(run: &Run) -> (Vec<u64>, Vec<u64>) {
+    let json = run.json();
+    let records = json.get("records").list();
+    let positions = |marked: bool| {
+        let records = records.iter();
+        let records =
+            records.filter(|record| !marked || record.get("behind_damage") == &Json::Truth(true));
+        records
+            .map(|record| record.get("position").number())
+            .collect::<Vec<u64>>()
+    };
+    (positions(false), positions(true))
+}
+
+const PARCEL: [&str; 5] = ["--topic", "SORTER_DIVERT", "--key", "P000017", "--json"];
+const QUEUE: [&str; 5] = ["--topic", "SORTER_DIVERT", "--queue", "2", "--json"];
+
+#[test]
+fn queries_and_queues_go_on_behind_damage() {
+    let folder = Folder::new("searched");
+    let sound = built(&folder, "sound");
+    assert_eq!(
+        found(&tool("query", &sound, &PARCEL)),
+        (vec![8211, 6696], vec![])
+    );
+    let (queue, _) = found(tool("queue", &sound, &QUEUE).is(0, ""));
+    let at = queue.iter().position(|position| *position == 6696).unwrap();
+
+    let damaged = folder.join("damaged");
+    copy(&sound, &damaged);
+    edit(&segment(&damaged, 0), |bytes| bytes[MIDDLE + 4] ^= 1);
+    let run = tool("query", &damaged, &PARCEL);
+    assert_eq!(
+        found(run.is(1, "it names position 6696")),
+        (vec![8211], vec![8211])
+    );
+    tool("query", &damaged, &PARCEL[..4])
+        .is(1, "1 record read behind damage")
+        .shows("(behind damage)");
+    let (shown, marked) =
+        found(tool("queue", &damaged, &QUEUE).is(1, "an entry names position 6696"));
+    assert_eq!(shown, [&queue[..at], &queue[at + 1..]].concat());
+    assert_eq!(marked, queue[at + 1..]);
+    // Damage that the question itself does not meet.
+    let other = folder.join("other");
+    copy(&sound, &other);
+    edit(&segment(&other, 0), |bytes| bytes[4] ^= 1);
+    let run = tool("query", &other, &PARCEL);
+    assert_eq!(found(run.is(0, "")), (vec![8211, 6696], vec![8211, 6696]));
+    let before = folder.join("before");
+    copy(&sound, &before);
+    edit(&segment(&before, 0), |bytes| bytes[8403 + 4] ^= 1);
+    let run = tool("query", &before, &PARCEL);
+    assert_eq!(found(run.is(0, "")), (vec![8211, 6696], vec![]));
+
+    // An index that ends before the damage, and none at all.
+    let lagging = folder.join("lagging");
+    tool("demo", &lagging, &[]).is(0, "");
+    let options = [&SMALL[..], &["--end", "6696"]].concat();
+    tool("rebuild", &lagging, &options).is(0, "stop      0");
+    edit(&segment(&lagging, 0), |bytes| bytes[MIDDLE + 4] ^= 1);
+    let said = "the log cannot be read from 6696 to 6888";
+    let run = tool("query", &lagging, &PARCEL);
+    assert_eq!(found(run.is(1, said)), (vec![8211], vec![8211]));
+    fs::remove_dir_all(lagging.join("index")).unwrap();
+    let run = tool("query", &lagging, &[&PARCEL[..], &["--scan"]].concat());
+    assert_eq!(found(run.is(1, said)), (vec![8211], vec![8211]));
+    // One that cannot be opened: the log is looked through.
+    fs::create_dir(lagging.join("index")).unwrap();
+    fs::write(lagging.join("index/20260302055800842"), [0; 83]).unwrap();
+    let run = tool("query", &lagging, &PARCEL);
+    assert_eq!(
+        found(run.is(1, "83 bytes are no index")),
+        (vec![8211], vec![8211])
+    );
+}
+
+#[test]
+fn queries_and_queues_go_on_behind_a_missing_segment() {
+    let folder = Folder::new("gone");
+    let store = folder.join("store");
+    in_small_segments(&store);
+    tool("rebuild", &store, &SMALL).is(0, "stop      0");
+    let ask = |key: &'static str| ["--topic", "T", "--key", key, "--json"];
+    let (all, _) = found(&tool("query", &store, &ask("s3")));
+    assert_eq!(all.len(), 20);
+    fs::remove_file(segment(&store, 16_384)).unwrap();
+    let run = tool("query", &store, &ask("s3"));
+    let missing = "the segment at 16384 is missing before it";
+    assert_eq!(found(run.is(1, missing)), (all.clone(), all.clone()));
+    let run = tool("query", &store, &ask("s0"));
+    assert_eq!(found(run.is(1, missing)).1, []);
+    tool("query", &store, &ask("s1")).is(
+        1,
+        "it names position 16384, which no file of the log has that can be read",
+    );
+    let queue = ["--topic", "T", "--queue", "0", "--json"];
+    let (shown, marked) = found(tool("queue", &store, &queue).is(1, missing));
+    assert_eq!((shown.len(), marked.len()), (80, 60));
+    // The index ends before the hole: what is behind it is found too.
+    let lagging = folder.join("lagging");
+    in_small_segments(&lagging);
+    let options = [&SMALL[..], &["--end", "16384"]].concat();
+    tool("rebuild", &lagging, &options).is(0, "stop      0");
+    fs::remove_file(segment(&lagging, 16_384)).unwrap();
+    let run = tool("query", &lagging, &ask("s3"));
+    assert_eq!(found(run.is(1, missing)), (all.clone(), all));
+}

@@ -5,7 +5,7 @@ use crate::failure::{fault, usage, At, Failure};
 use crate::text::{grouped, shown_path};
 use std::fs::{self, File, Metadata};
 use std::io::ErrorKind;
-use std::os::unix::fs::FileTypeExt;
+use std::os::unix::fs::{FileExt, FileTypeExt};
 use std::path::{Path, PathBuf};
 
 /// A record's magic, its place and the place of the log position.
@@ -80,17 +80,31 @@ pub fn no_file(metadata: &Metadata) -> Option<&'static str> {
 }
 
 /// Where a segment without a name starts: its first record says it. Whether that is right is for the archive to judge.
-pub fn first_by_record(bytes: &[u8], size: u64) -> u64 {
-    let own = |at: usize| Some(u64::from_be_bytes(*bytes.get(at..)?.first_chunk()?));
-    let is_record = bytes
+pub fn first_by_record(head: &[u8], size: u64) -> u64 {
+    let is_record = head
         .get(MAGIC..)
         .is_some_and(|rest| rest.starts_with(&MESSAGE));
-    let first = own(LOG_POSITION).filter(|_| is_record).unwrap_or(0);
-    let last = LAST_END.saturating_sub(bytes.len() as u64);
-    match first.is_multiple_of(size) && first <= last {
-        true => first,
-        false => 0,
+    let own = head.get(LOG_POSITION..).and_then(<[u8]>::first_chunk);
+    let own = own
+        .filter(|_| is_record)
+        .map(|own| u64::from_be_bytes(*own));
+    let fits = |own: &u64| own.is_multiple_of(size) && own.saturating_add(size) <= LAST_END;
+    own.filter(fits).unwrap_or(0)
+}
+
+/// One file. Its name is its first position, or its first record has it.
+pub fn one(path: &Path, asked: Option<u64>) -> Result<(Named, u64), Failure> {
+    let name = path.file_name().and_then(|name| name.to_str());
+    let first = name.and_then(numbered_name);
+    let mut named = Named::open(path.to_path_buf(), first.unwrap_or(0));
+    let size = size(std::slice::from_ref(&named), asked)?;
+    if let (None, Ok(segment)) = (first, &mut named.segment) {
+        let mut head = [0; LOG_POSITION + 8];
+        let read = segment.file.read_at(&mut head, 0).at("read", path)?;
+        segment.first = first_by_record(&head[..read], size);
+        named.first = segment.first;
     }
+    Ok((named, size))
 }
 
 /// All that a store's folder has under names of segments, in order.

@@ -51,6 +51,8 @@ pub struct Search<'a> {
     pub faults: Vec<String>,
     /// What is not read because of a limit of the archive.
     pub limits: Vec<String>,
+    /// Items of records with hosts of 20 bytes.
+    pub long_hosts: u64,
     /// Items of records that stood before the log's first one.
     pub older: u64,
     /// The first damage that was met.
@@ -71,6 +73,7 @@ impl<'a> Search<'a> {
             records_read: 0,
             faults: log.faults.clone(),
             limits: log.limits.clone(),
+            long_hosts: 0,
             older: 0,
             damage: None,
         }
@@ -142,6 +145,7 @@ impl<'a> Search<'a> {
         self.found.append(&mut other.found);
         self.faults.append(&mut other.faults);
         self.limits.append(&mut other.limits);
+        self.long_hosts += other.long_hosts;
         self.older += other.older;
         self.same_hash_only += other.same_hash_only;
         self.items_read += other.items_read;
@@ -197,18 +201,16 @@ impl<'a> Search<'a> {
             self.older += 1;
             return;
         }
-        let sentence = format!(
+        if self.log.long_hosts(position).is_some() {
+            self.long_hosts += 1;
+            return;
+        }
+        self.damaged_at(position);
+        self.faults.push(format!(
             "index {name}: it names position {}, {}",
             position.0,
             record::not_read(self.log, position, answer)
-        );
-        match self.log.long_hosts(position) {
-            Some(_) => self.limits.push(sentence),
-            None => {
-                self.damaged_at(position);
-                self.faults.push(sentence);
-            }
-        }
+        ));
     }
 
     /// Looks through the log from a position on.
@@ -349,7 +351,13 @@ impl<'a> Search<'a> {
     }
 
     /// Newest first, each once, and no more than the limit.
-    pub fn arrange(&mut self) {
+    pub fn arrange(&mut self) -> Result<(), Failure> {
+        if let Some(last) = self.found.iter().map(|found| found.position).max() {
+            let damage = self.log.damage_before(last)?;
+            damage
+                .into_iter()
+                .for_each(|damage| self.damaged_at(damage));
+        }
         let damage = self.damage;
         for found in &mut self.found {
             found.behind |= damage.is_some_and(|damage| damage < found.position);
@@ -359,6 +367,7 @@ impl<'a> Search<'a> {
         let limit = usize::try_from(self.asked.limit).unwrap_or(usize::MAX);
         self.more = self.found.len().saturating_sub(limit) as u64;
         self.found.truncate(limit);
+        Ok(())
     }
 
     /// That there are more than the limit. An index is not asked for how many.
