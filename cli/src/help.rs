@@ -118,14 +118,19 @@ checksum, and the body as text or, where it is none, as hexadecimal digits. A po
 ";
 
 pub const CHECK: &str = "\
-swistopal check DIR [--queues FILE] [--slots K] [--json]
+swistopal check DIR [--bodies] [--queues FILE] [--slots K] [--items N] [--json|--jsonl]
 
 Walks log, queues and index and says what is sound, where it stops and with which number, what is missing, and what to do
-next. Queues and index are compared with those that the log gives, which are made in memory. Nothing is written.
+next. Queues and index are compared with those that the log gives, which are made in memory, behind damage too. What is
+only past a limit of this tool is told as a limit, what is older than the log is counted, and neither is a fault. Nothing
+is written.
 
-  --queues FILE        the queues, if the log has more than 16; as for rebuild
+  --bodies             also judge each body by its checksum
+  --queues FILE        compare only these queues; as for rebuild
   --slots K            slots of the index, if they cannot be told from the file
-  --json               one object
+  --items N            items of the index, if it was made with another number than RocketMQ's
+  --json               one object; each finding has a kind and its numbers
+  --jsonl              an object for each finding, one for each line
   --end POSITION, --segment-size S   as for list
 
 The numbers of the answers:

@@ -214,6 +214,7 @@ impl Listing {
             .number("damaged_parts", damage().count() as u64)
             .number("damaged_bytes", damage().map(Skipped::bytes).sum())
             .raw("hints", &strings(hints))
+            .raw("limits", &strings(&log.limits))
             .raw("faults", &strings(&log.faults));
         if self.results.is_text() {
             let text = self.results.text();
@@ -226,11 +227,11 @@ impl Listing {
     }
 
     fn tell(&self) {
-        for skipped in &self.skipped {
-            let sentence = skipped.sentence();
-            match skipped.is_damage() {
-                true => note(&format!("passed over: {sentence}")),
-                false => note(&format!("left out: {sentence}")),
+        let parts = self.skipped.iter().copied();
+        let (damaged, left_out): (Vec<Skipped>, Vec<Skipped>) = parts.partition(Skipped::is_damage);
+        for (what, parts) in [("passed over", damaged), ("left out", left_out)] {
+            if let Some(sentence) = log::sentence_on(&parts) {
+                note(&format!("{what}: {sentence}"));
             }
         }
     }

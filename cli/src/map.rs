@@ -103,6 +103,19 @@ pub fn lock_holder(file: &File) -> io::Result<Option<i32>> {
     Ok((lock.kind != F_UNLCK).then_some(lock.process))
 }
 
+/// Has the processor bring bytes near that are read soon. None of them is touched, so one that the medium does not give does
+/// not end the tool here.
+pub fn bring_near(bytes: &[u8]) {
+    #[cfg(target_arch = "x86_64")]
+    for line in bytes.chunks(64) {
+        use std::arch::x86_64::{_mm_prefetch, _MM_HINT_T0};
+        // SAFETY: it is a hint, which reads and writes nothing.
+        unsafe { _mm_prefetch::<_MM_HINT_T0>(line.as_ptr().cast()) };
+    }
+    #[cfg(not(target_arch = "x86_64"))]
+    let _ = bytes;
+}
+
 struct Mapping {
     start: *mut u8,
     length: usize,

@@ -134,12 +134,12 @@ fn each_line_is_an_object() {
     let check = tool("check", &store, &["--jsonl"]);
     check.is(1, "");
     let lines: Vec<Json> = check.out.lines().map(Json::parse).collect();
-    let parts: Vec<&Json> = lines.iter().map(|line| line.get("part")).collect();
+    let (last, findings) = lines.split_last().unwrap();
+    let parts: Vec<&Json> = findings.iter().map(|line| line.get("part")).collect();
     let part = |name: &str| Json::Text(String::from(name));
     assert_eq!(parts[0], &part("log"));
     assert!(parts.contains(&&part("next")));
-    let last = lines.last().unwrap();
-    assert_eq!(last.get("part"), &part("end"));
+    assert_eq!(last.get("summary"), &Json::Truth(true));
     assert_eq!(last.get("sound"), &Json::Truth(false));
 }
 

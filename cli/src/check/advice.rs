@@ -63,6 +63,9 @@ impl Standing {
             let differ = matches!(rest, Others::Differ(_));
             take(&Rest::default(), merge.missing.first, differ);
         }
+        if let Found::Absent { first, .. } = compared.index {
+            take(&Rest::default(), Some(first), false);
+        }
         standing.impossible = sides.list.iter().any(|side| side.impossible.is_some());
         standing.wrong |= !results.refused.is_empty();
         standing.more_than_the_log |= sides.unlisted > 0;

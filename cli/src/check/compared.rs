@@ -24,6 +24,11 @@ pub struct Compared<'a> {
 pub enum Found<'a> {
     /// The index is what the archive made, byte for byte.
     Same,
+    /// None is there: so many items are missing, the first one of the record at this position.
+    Absent {
+        items: u64,
+        first: u64,
+    },
     Merged {
         merge: Merge<'a>,
         rest: Others,
@@ -49,11 +54,7 @@ pub struct Comparer<'a> {
 impl<'a> Comparer<'a> {
     pub fn compare(&self) -> Result<Compared<'a>, Failure> {
         let mut compared = match self.at_once()? {
-            Some(sides) => Compared {
-                sides,
-                index: Found::Same,
-                refused: None,
-            },
+            Some(compared) => compared,
             None => self.one_by_one()?,
         };
         let on_disk = self.results.on_disk.clone();
@@ -66,8 +67,8 @@ impl<'a> Comparer<'a> {
         Sides::new(self.store, cut, self.listed.clone())
     }
 
-    /// The queues, if they and the index are the same as what the archive made of the whole log.
-    fn at_once(&self) -> Result<Option<Sides<'a>>, Failure> {
+    /// Queues and index, if each is the same as what the archive made of the whole log, or is not there at all.
+    fn at_once(&self) -> Result<Option<Compared<'a>>, Failure> {
         let whole = self.survey.made.as_ref().filter(|made| {
             made.stop == Answer::Done && made.progress.position == self.survey.end.position
         });
@@ -79,7 +80,17 @@ impl<'a> Comparer<'a> {
         let same = self.results.refused.is_empty()
             && exact::index_is_same(made, indexes)
             && exact::queues_are_same(made, &mut sides)?;
-        Ok(same.then_some(sides))
+        let none = indexes.is_empty() && self.results.empty.is_empty();
+        let index = match exact::items(made) {
+            (items, Some(first)) if none => Found::Absent { items, first },
+            (_, Some(_)) if indexes.is_empty() => return Ok(None),
+            _ => Found::Same,
+        };
+        Ok(same.then_some(Compared {
+            sides,
+            index,
+            refused: None,
+        }))
     }
 
     fn one_by_one(&self) -> Result<Compared<'a>, Failure> {

@@ -6,7 +6,7 @@ use crate::failure::Failure;
 use crate::index::{item_place, slot_place, Bytes, Index};
 use crate::text::grouped;
 
-/// Whether all entries that the archive made are there; each queue's are taken.
+/// Whether each queue has all entries that the archive made, or no file; they are taken.
 pub fn queues_are_same(made: &Made, sides: &mut Sides) -> Result<bool, Failure> {
     for (number, row) in made.plan.rows.iter().enumerate() {
         let (first, entries) = made.entries(number);
@@ -17,11 +17,17 @@ pub fn queues_are_same(made: &Made, sides: &mut Sides) -> Result<bool, Failure> 
     Ok(true)
 }
 
-/// Whether the one index, or none, is what the archive made.
+/// The items that the archive made, and the position of the first one's record.
+pub fn items(made: &Made) -> (u64, Option<u64>) {
+    let made = Bytes(&made.index);
+    (made.used() - 1, made.first_position())
+}
+
+/// Whether the one index is what the archive made, or none is there.
 pub fn index_is_same(made: &Made, indexes: &[Index]) -> bool {
     let made = Bytes(&made.index);
     match indexes {
-        [] => made.used() == 1,
+        [] => true,
         [index] => {
             let found = Bytes(&index.bytes);
             let slots = index.geometry.slots;

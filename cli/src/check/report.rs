@@ -171,8 +171,9 @@ impl Report {
             for next in &self.next {
                 writeln!(out, "{}", next.object())?;
             }
-            let end = Object::new().text("part", "end");
-            writeln!(out, "{}", end.truth("sound", self.sound()).end())?;
+            let end = Object::new().truth("summary", true);
+            let end = end.truth("sound", self.sound());
+            writeln!(out, "{}", end.truth("limited", self.limited()).end())?;
         } else if args.flag("--json") {
             let objects = |findings: &[&Finding]| {
                 let objects: Vec<String> = findings.iter().map(|one| one.object()).collect();

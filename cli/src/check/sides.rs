@@ -120,7 +120,7 @@ impl<'a> Sides<'a> {
         Ok(number)
     }
 
-    /// All entries of a queue at once, from a number on; whether those that are there are the same.
+    /// All entries of a queue at once, from a number on; whether they are the same, or none is there.
     pub fn take_all(&mut self, queue: &Queue, first: u64, made: &[u8]) -> Result<bool, Failure> {
         let number = self.add(queue.clone())?;
         let same = number.is_some_and(|number| self.list[number].take_all(first, made));
@@ -209,6 +209,16 @@ impl Side {
 
     fn take_all(&mut self, first: u64, made: &[u8]) -> bool {
         let end = first + (made.len() / ENTRY) as u64;
+        self.given = end - first;
+        if self.files.is_empty() {
+            if let Some(entry) = made.first_chunk() {
+                self.missing = Tally {
+                    count: self.given,
+                    first: Some((first, QueueEntry::of(entry).position)),
+                };
+            }
+            return self.refused.is_empty() && self.impossible.is_none();
+        }
         let mut next = first;
         for file in &self.files {
             let to = file.end().min(end);
@@ -224,7 +234,6 @@ impl Side {
             }
             next = to;
         }
-        self.given = end - first;
         self.same = next - first;
         self.compared.push(first..next);
         next == end && self.refused.is_empty() && self.impossible.is_none()

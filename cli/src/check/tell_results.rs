@@ -1,7 +1,7 @@
 //! Findings about queues and index, in words and numbers.
 
 use super::compared::{Compared, Found, Others};
-use super::merge::{Merge, Merged};
+use super::merge::Merged;
 use super::reach::{Reach, Rest};
 use super::report::{fault, limit, missing, sound, Finding, Report};
 use super::results::Results;
@@ -242,6 +242,9 @@ fn index(compared: &Compared, results: &Results, reach: &Reach, report: &mut Rep
                 report.add(index_finding(sound("index", "index", sentence), index));
             }
         }
+        Found::Absent { items, first } => {
+            lacking_items(*items, *items, Some(*first), results, report)
+        }
         Found::Merged { merge, rest } => {
             for merged in &merge.files {
                 merged_file(merged, rest, reach, report);
@@ -253,7 +256,8 @@ fn index(compared: &Compared, results: &Results, reach: &Reach, report: &mut Rep
                 report.add(finding.number("value_by_log", differs.made));
             }
             if results.refused.is_empty() {
-                lacking_items(merge, results, report);
+                let missing = &merge.missing;
+                lacking_items(missing.count, merge.given, missing.first, results, report);
             }
             let other = merge.files.iter().map(|merged| merged.other_hash).sum();
             let entries = compared.sides.list.iter().map(|side| side.other_hash);
@@ -378,20 +382,27 @@ fn wrong_items(merged: &Merged, report: &mut Report) {
     }
 }
 
-fn lacking_items(merge: &Merge, results: &Results, report: &mut Report) {
-    let Some(position) = merge.missing.first else {
+/// Items that the log gives and that are not there, the first of them of the record at a position.
+fn lacking_items(
+    lacking: u64,
+    given: u64,
+    first: Option<u64>,
+    results: &Results,
+    report: &mut Report,
+) {
+    let Some(position) = first else {
         return;
     };
-    let given = counted(merge.given, "item", "items");
+    let items = counted(given, "item", "items");
     let finding = if results.indexes.is_empty() && results.empty.is_empty() {
-        missing("index", format!("index: {given} by the log"))
+        missing("index", format!("index: {items} by the log"))
     } else {
-        let lacking = grouped(merge.missing.count);
         let sentence = format!(
-            "{lacking} of {given} by the log not there, the first is of the record at {position}"
+            "{} of {items} by the log not there, the first is of the record at {position}",
+            grouped(lacking)
         );
         fault("index", "short", sentence).number("position", position)
     };
-    let finding = finding.number("items", merge.missing.count);
-    report.add(finding.number("items_by_log", merge.given));
+    let finding = finding.number("items", lacking);
+    report.add(finding.number("items_by_log", given));
 }
