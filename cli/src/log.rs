@@ -4,8 +4,8 @@ mod before;
 mod on;
 mod segments;
 
-pub use on::{Cause, Met, Place, Skipped};
-pub use segments::numbered_name;
+pub use on::{sentence_on, Cause, Met, Place, Skipped};
+pub use segments::{numbered_name, LAST_END};
 
 use crate::args::Args;
 use crate::failure::{fault, usage, At, Failure};
@@ -33,6 +33,8 @@ pub struct Log {
     pub faults: Vec<String>,
     /// What is not read because of a limit of the archive, and may be sound.
     pub limits: Vec<String>,
+    /// Where the part of the log begins that is above the limit of positions.
+    above: Option<LogPosition>,
 }
 
 /// Segments that follow each other, lent to the archive with their own first position.
@@ -105,6 +107,7 @@ impl Log {
             end_given: false,
             faults: runs.faults,
             limits: runs.limits,
+            above: runs.above.map(LogPosition),
         };
         log.with_end(args)
     }
@@ -145,6 +148,7 @@ impl Log {
             end_given: false,
             faults: Vec::new(),
             limits: Vec::new(),
+            above: None,
         };
         log.with_end(args)
     }
@@ -187,6 +191,11 @@ impl Log {
     /// Where the last stretch ends.
     pub fn files_end(&self) -> LogPosition {
         self.stretches[self.stretches.len() - 1].end
+    }
+
+    /// Whether a position is in a part of the log that is above the limit of positions.
+    pub fn is_above_limit(&self, position: LogPosition) -> bool {
+        self.above.is_some_and(|above| above <= position)
     }
 
     /// What stands at a position, in whichever stretch.

@@ -10,10 +10,12 @@ use crate::log::{self, Log, Met};
 use crate::note;
 use crate::queues;
 use crate::record::{self, With};
-use crate::text::{counted, quoted_path, shown, shown_path, strings, Object};
+use crate::shell;
+use crate::text::{counted, shown, shown_path, strings, Object};
 use crate::wanted::{self, times};
 use search::{Asked, Search};
 use std::collections::BTreeSet;
+use std::os::unix::ffi::OsStrExt;
 use swistopal::Query;
 
 const DEFAULT_LIMIT: u64 = 32;
@@ -33,7 +35,7 @@ pub fn run(args: &Args) -> Result<Outcome, Failure> {
             return fault(format!(
                 "{}: no index in it; --scan looks through the log itself, and `swistopal check {}` says how to make an index",
                 shown_path(args.place()),
-                quoted_path(args.place())
+                shell::place(args.place().as_os_str().as_bytes())
             ));
         }
         search.faults.extend(faults);
@@ -46,7 +48,8 @@ pub fn run(args: &Args) -> Result<Outcome, Failure> {
         search.judge_bodies();
     }
     hints.extend(search.cut());
-    hints.extend(record::long_hosts(search.long_hosts, "items of the index"));
+    let left_out = &search.left_out;
+    hints.extend(left_out.sentences(&log, "item of the index", "items of the index"));
     print(form, &search, body, &hints)?;
     search.tell();
     log::tell(&hints);
@@ -89,7 +92,8 @@ fn by_index(args: &Args, search: &mut Search, indexes: &[Index]) -> Result<(), F
         None => topics(args, search)?,
     };
     search.topics = topics.len() as u64;
-    for index in indexes {
+    let indexes = search.within_limits(indexes);
+    for index in &indexes {
         search.faults.extend(index.doubt.clone());
     }
     for topic in &topics {
@@ -111,7 +115,7 @@ fn by_index(args: &Args, search: &mut Search, indexes: &[Index]) -> Result<(), F
             }
         }
     }
-    search.look_behind(indexes, &quoted_path(args.place()))
+    search.look_behind(&indexes, &shell::place(args.place().as_os_str().as_bytes()))
 }
 
 /// The topics of the store: those of its queues, and those of its log, which is read for them.
@@ -190,11 +194,12 @@ fn print(form: Form, search: &Search, body: bool, hints: &[String]) -> Result<()
     }
     let tail = Object::new()
         .truth("more", search.more > 0)
-        .number("older_than_the_log", search.older)
+        .number("older_than_the_log", search.left_out.older)
         .number("same_hash_only", search.same_hash_only)
         .number("items_read", search.items_read)
         .number("records_read", search.records_read)
         .raw("hints", &strings(hints))
+        .raw("limits", &strings(&search.limits))
         .raw("faults", &strings(&search.faults));
     results.end(tail)
 }
@@ -232,13 +237,6 @@ impl Search<'_> {
             let others = counted(self.same_hash_only, "record", "records");
             note(&format!(
                 "{others} left out: another key with the same hash"
-            ));
-        }
-        if self.older > 0 {
-            let older = counted(self.older, "item", "items");
-            note(&format!(
-                "{older} of the index older than the log, which starts at {}",
-                self.log.first().0
             ));
         }
         let behind = self.found.iter().filter(|found| found.behind).count() as u64;

@@ -6,10 +6,12 @@ use crate::form::{Form, Results};
 use crate::log::{self, Log};
 use crate::note;
 use crate::queues::{self, Queue, QueueFile};
-use crate::record::{self, Read, With};
-use crate::text::{counted, grouped, quoted_path, shown, shown_path, strings, Object};
+use crate::record::{self, LeftOut, Read, With};
+use crate::shell;
+use crate::text::{counted, grouped, shown, shown_path, strings, Object};
 use crate::wanted;
 use std::collections::BTreeSet;
+use std::os::unix::ffi::OsStrExt;
 use swistopal::{
     append, dispatch, read_queue, Answer, Dispatch, Entry, IndexGeometry, LogGeometry, LogPosition,
     Message, Progress, QueueEntries, QueueOffset, QueueReading,
@@ -39,7 +41,7 @@ pub fn run(args: &Args) -> Result<Outcome, Failure> {
     if let Some(last) = positions.iter().max() {
         reading.damage = log.damage_before(*last)?;
     }
-    let store = quoted_path(args.place());
+    let store = shell::place(args.place().as_os_str().as_bytes());
     for fault in file_faults {
         let next = format!("`swistopal check {store}` says what to do");
         reading.faults.push(format!("{fault}; {next}"));
@@ -53,7 +55,7 @@ pub fn run(args: &Args) -> Result<Outcome, Failure> {
         reading.show(position, args.flag("--body"), &mut results)?;
     }
     let mut hints = asked.hints(more);
-    hints.extend(record::long_hosts(reading.long_hosts, "entries"));
+    hints.extend(reading.left_out.sentences(&log, "entry", "entries"));
     reading.end(&mut results, more, &hints)?;
     reading.tell(entries);
     log::tell(&hints);
@@ -151,7 +153,7 @@ fn absent(args: &Args, queue: &Queue) -> Result<Outcome, Failure> {
         true => wanted::no_topic("consumequeue", &queue.topic, &topics),
         false => format!("that topic has the queues {}", ids.join(", ")),
     };
-    let store = quoted_path(args.place());
+    let store = shell::place(args.place().as_os_str().as_bytes());
     fault(format!(
         "{}: no queue {} in it: {instead}; `swistopal list --long {store}` shows topic and queue of each record, \
          `swistopal check {store}` says what is missing",
@@ -168,10 +170,7 @@ struct Reading<'a> {
     damage: Option<LogPosition>,
     records: u64,
     behind: u64,
-    /// Entries of records that stood before the log's first one.
-    older: u64,
-    /// Entries of records with hosts of 20 bytes.
-    long_hosts: u64,
+    left_out: LeftOut,
     faults: Vec<String>,
 }
 
@@ -183,8 +182,7 @@ impl Reading<'_> {
             damage: None,
             records: 0,
             behind: 0,
-            older: 0,
-            long_hosts: 0,
+            left_out: LeftOut::default(),
             faults: log.faults.clone(),
         }
     }
@@ -211,7 +209,6 @@ impl Reading<'_> {
                 "queue {}: an entry names position {position}, where no record of this queue stands",
                 queue.shown()
             )),
-            Err(_) if at < self.log.first() => self.older += 1,
             Err(answer) => self.not_read(at, answer),
         }
         Ok(())
@@ -237,8 +234,7 @@ impl Reading<'_> {
     }
 
     fn not_read(&mut self, position: LogPosition, answer: Answer) {
-        if self.log.long_hosts(position).is_some() {
-            self.long_hosts += 1;
+        if self.left_out.takes(self.log, position) {
             return;
         }
         self.faults.push(format!(
@@ -252,8 +248,9 @@ impl Reading<'_> {
     fn end(&self, results: &mut Results, more: u64, hints: &[String]) -> Result<(), Failure> {
         let tail = Object::new()
             .number("more", more)
-            .number("older_than_the_log", self.older)
+            .number("older_than_the_log", self.left_out.older)
             .raw("hints", &strings(hints))
+            .raw("limits", &strings(&self.log.limits))
             .raw("faults", &strings(&self.faults));
         results.end(tail)
     }
@@ -267,13 +264,6 @@ impl Reading<'_> {
             "{records} of queue {}{entries}",
             self.queue.shown()
         ));
-        if self.older > 0 {
-            note(&format!(
-                "{} older than the log, which starts at {}",
-                counted(self.older, "entry", "entries"),
-                self.log.first().0
-            ));
-        }
         if self.behind > 0 {
             let behind = counted(self.behind, "record", "records");
             note(&format!("{behind} read behind damage"));

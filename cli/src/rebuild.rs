@@ -35,7 +35,7 @@ pub fn run(args: &Args) -> Result<Outcome, Failure> {
     let place = results_folder(store, args, after_crash)?;
 
     let (mut work, end) = open(&place, &log, &sizes, listed, args)?;
-    let building = work.state.stage == Stage::Building;
+    let building = work.state().stage == Stage::Building;
     let done = match building {
         true => dispatch_all(&mut work, &log, &end, budget, batch)?,
         false => Dispatched {
@@ -48,8 +48,12 @@ pub fn run(args: &Args) -> Result<Outcome, Failure> {
         if building {
             made.short
                 .extend(loss::of(&place, &made.plan, &made.state, made.items)?);
-            made.ask(args, &end)?;
-            broker::refuse(&place, after_crash)?;
+            let asked = made.ask(args, &end);
+            if let Err(failure) = asked.and_then(|()| broker::refuse(&place, after_crash)) {
+                // What was done is done when it is asked for.
+                work.keep()?;
+                return Err(failure);
+            }
         }
         // First the files, then the report: nobody may be reading it.
         made.kept = work.place()?;
@@ -134,12 +138,12 @@ fn go_on(work: Work, log: &Log, args: &Args) -> Result<(Work, End), Failure> {
     if let Some(occupied) = work.in_the_way().filter(|_| !args.flag("--force")) {
         return in_the_way(&occupied);
     }
-    let from = work.state.progress.position;
-    if work.state.steps > 0 {
+    let from = work.state().progress.position;
+    if work.state().steps > 0 {
         note(&format!(
             "going on at position {} after {}",
             from.0,
-            counted(work.state.steps, "step", "steps")
+            counted(work.state().steps, "step", "steps")
         ));
     }
     if from > log.end() {
@@ -155,7 +159,7 @@ fn go_on(work: Work, log: &Log, args: &Args) -> Result<(Work, End), Failure> {
         Ok(true)
     })?;
     drop(meter);
-    if work.state.stage == Stage::Building {
+    if work.state().stage == Stage::Building {
         ask_about_end(log, &end, args)?;
     }
     Ok((work, end))
@@ -201,7 +205,11 @@ fn dispatch_all(
     budget: u64,
     batch: u64,
 ) -> Result<Dispatched, Failure> {
-    let mut meter = Meter::new("rebuilding", work.state.progress.position.0, end.position.0);
+    let mut meter = Meter::new(
+        "rebuilding",
+        work.state().progress.position.0,
+        end.position.0,
+    );
     let mut steps = 0;
     loop {
         let left = budget - steps;
@@ -234,7 +242,7 @@ impl Made {
         let early = ends_early(log, end).filter(|_| caught_up);
         Ok(Made {
             plan: work.plan.clone(),
-            state: work.state,
+            state: work.state(),
             items: work.items()?,
             done,
             stop: if caught_up { end.answer } else { done.stop },

@@ -3,7 +3,7 @@
 use crate::crc;
 use crate::log::{Cause, Log, Skipped};
 use crate::properties::Names;
-use crate::text::{array, grouped, of_bytes, shown, Object};
+use crate::text::{array, counted, of_bytes, shown, Object};
 use crate::time;
 use std::io::{self, Write};
 use swistopal::{Answer, Entry, LogPosition, Message};
@@ -139,14 +139,62 @@ pub fn object(read: &Read, with_body: bool) -> String {
     object.end()
 }
 
-/// What is left out as the archive does not read it.
-pub fn long_hosts(count: u64, of: &str) -> Option<String> {
-    (count > 0).then(|| {
-        format!(
-            "{} {of} left out: their records have hosts of 20 bytes (IPv6), which this tool does not read; that is no damage",
-            grouped(count)
-        )
-    })
+/// Positions that an index or a queue names and that are left out, as they are older than the log or the archive does not
+/// read them. None of it is a fault.
+#[derive(Default)]
+pub struct LeftOut {
+    pub older: u64,
+    long_hosts: Vec<LogPosition>,
+    above: u64,
+}
+
+impl LeftOut {
+    /// Whether a position where no record is read is one of these.
+    pub fn takes(&mut self, log: &Log, position: LogPosition) -> bool {
+        if position < log.first() {
+            self.older += 1;
+        } else if log.is_above_limit(position) {
+            self.above += 1;
+        } else if log.long_hosts(position).is_some() {
+            self.long_hosts.push(position);
+        } else {
+            return false;
+        }
+        true
+    }
+
+    pub fn add(&mut self, mut other: LeftOut) {
+        self.older += other.older;
+        self.above += other.above;
+        self.long_hosts.append(&mut other.long_hosts);
+    }
+
+    /// A sentence for each kind; `one` and `many` say what names the positions.
+    pub fn sentences(&self, log: &Log, one: &str, many: &str) -> Vec<String> {
+        let mut sentences = Vec::new();
+        if self.older > 0 {
+            let older = counted(self.older, one, many);
+            let LogPosition(first) = log.first();
+            sentences.push(format!(
+                "{older} older than the log, which starts at {first}"
+            ));
+        }
+        if self.above > 0 {
+            let above = counted(self.above, one, many);
+            sentences.push(format!(
+                "{above} left out: the positions are above 2^40, up to which this tool reads a log; that is no damage"
+            ));
+        }
+        if let Some(first) = self.long_hosts.iter().min() {
+            let long = counted(self.long_hosts.len() as u64, one, many);
+            sentences.push(format!(
+                "{long} left out, the first at position {}: hosts of 20 bytes (IPv6), which this tool does not read; that is no \
+                 damage",
+                first.0
+            ));
+        }
+        sentences
+    }
 }
 
 pub fn kind(entry: &Entry) -> &'static str {

@@ -1,11 +1,13 @@
 //! Words of a command line that a shell takes back as they were.
 
+use crate::text::is_unseen;
+
 /// A word as a shell reads it. What a terminal would not show, or show otherwise, is written as escapes of `$'..'`.
 pub fn quoted(word: &[u8]) -> String {
     let plain = |byte: &u8| byte.is_ascii_alphanumeric() || b"_@%+=:,./-".contains(byte);
     match std::str::from_utf8(word) {
         Ok(text) if !text.is_empty() && word.iter().all(plain) => String::from(text),
-        Ok(text) if text.chars().all(is_shown) => format!("'{}'", text.replace('\'', "'\\''")),
+        Ok(text) if !text.contains(is_unseen) => format!("'{}'", text.replace('\'', "'\\''")),
         _ => escaped(word),
     }
 }
@@ -16,13 +18,6 @@ pub fn place(path: &[u8]) -> String {
         true => quoted(&[b"./", path].concat()),
         false => quoted(path),
     }
-}
-
-/// Whether a character is shown as itself: neither a control character nor one that only turns or hides others.
-fn is_shown(character: char) -> bool {
-    !character.is_control()
-        && !matches!(character, '\u{ad}' | '\u{61c}' | '\u{200b}'..='\u{200f}' | '\u{2028}'..='\u{202e}'
-            | '\u{2060}'..='\u{206f}' | '\u{feff}')
 }
 
 fn escaped(word: &[u8]) -> String {
@@ -59,7 +54,7 @@ mod tests {
         ];
         for word in words {
             let text = quoted(word);
-            assert!(text.chars().all(is_shown), "{text}");
+            assert!(!text.contains(is_unseen), "{text}");
             let script = format!("printf %s {text}");
             let said = Command::new("bash").args(["-c", &script]).output().unwrap();
             assert_eq!(said.stdout, word, "{text}");

@@ -27,7 +27,7 @@ pub fn shown(bytes: &[u8]) -> String {
 /// Control characters, line ends, and characters that are not seen but change how others are: those that turn the direction
 /// of writing, those without a width, other format characters and fillers. The list is Unicode's, of its categories Cc, Cf, Zl
 /// and Zp and of its property Default_Ignorable_Code_Point.
-fn is_unseen(character: char) -> bool {
+pub fn is_unseen(character: char) -> bool {
     character.is_control()
         || matches!(character,
             '\u{ad}' | '\u{34f}' | '\u{600}'..='\u{605}' | '\u{61c}' | '\u{6dd}' | '\u{70f}'
@@ -36,26 +36,6 @@ fn is_unseen(character: char) -> bool {
             | '\u{2060}'..='\u{206f}' | '\u{3164}' | '\u{fe00}'..='\u{fe0f}' | '\u{feff}' | '\u{ffa0}'
             | '\u{fff0}'..='\u{fffb}' | '\u{110bd}' | '\u{110cd}' | '\u{13430}'..='\u{1343f}'
             | '\u{1bca0}'..='\u{1bca3}' | '\u{1d173}'..='\u{1d17a}' | '\u{e0000}'..='\u{e0fff}')
-}
-
-/// Bytes as one word of a command that can be pasted into a shell. What is not seen needs a shell that knows `$'..'`.
-pub fn quoted(bytes: &[u8]) -> String {
-    let plain = |byte: &u8| byte.is_ascii_alphanumeric() || b"_@%+=:,./-".contains(byte);
-    let text = std::str::from_utf8(bytes).ok();
-    match text.filter(|text| !text.contains(is_unseen)) {
-        Some(text) if !text.is_empty() && bytes.iter().all(plain) => text.to_string(),
-        Some(text) => format!("'{}'", text.replace('\'', "'\\''")),
-        None => format!("$'{}'", shown(bytes).replace('\'', "\\'")),
-    }
-}
-
-/// A path as one word of a command: it is not taken for an option.
-pub fn quoted_path(path: impl AsRef<Path>) -> String {
-    let path = path.as_ref().as_os_str().as_bytes();
-    match path.first() {
-        Some(b'-') => quoted(&[b"./", path].concat()),
-        _ => quoted(path),
-    }
 }
 
 /// A path as one line of text: a worn disk may have any bytes in its names.
@@ -258,26 +238,6 @@ mod tests {
         }
         assert_eq!(string("\u{9b}\u{202e}"), r#""\u009b\u202e""#);
         assert_eq!(string("\u{e0041}"), r#""\udb40\udc41""#);
-    }
-
-    #[test]
-    fn a_shell_takes_a_quoted_word_as_it_was() {
-        for (bytes, word) in [
-            (&b"/var/store-1.d"[..], "/var/store-1.d"),
-            (b"", "''"),
-            (b"my store", "'my store'"),
-            (b"it's $(touch x) `y` \\", "'it'\\''s $(touch x) `y` \\'"),
-            ("Büro".as_bytes(), "'Büro'"),
-            (b"a\nb'\\", "$'a\\x0ab\\'\\\\'"),
-            (b"\xff7", "$'\\xff7'"),
-        ] {
-            assert_eq!(quoted(bytes), word);
-            let said = std::process::Command::new("bash")
-                .args(["-c", &format!("printf %s {word}")])
-                .output();
-            assert_eq!(said.unwrap().stdout, bytes);
-        }
-        assert_eq!(quoted_path("-x"), "./-x");
     }
 
     #[test]

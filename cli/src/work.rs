@@ -89,34 +89,22 @@ impl Claim {
 
     /// Writes a plan with empty work files into a new folder. The plan comes last: without it nothing here counts.
     pub fn begin(self, plan: Plan) -> Result<Work, Failure> {
-        let parts = Parts::of(&self.folder, &plan);
-        fs::create_dir_all(&parts.index_folder).at("create", &parts.index_folder)?;
-        let queues = zeros(&parts.queues, queues_length(&plan)?)?;
-        let region = plan.entries.0 * QueueEntries::ENTRY_BYTES;
-        for (number, row) in plan.rows.iter().enumerate() {
-            let mut entry = [0; 20];
-            entry[8..12].copy_from_slice(&NO_RECORD.to_be_bytes());
-            let filled = entry.repeat(row.start.0 as usize);
-            let written = queues.write_all_at(&filled, number as u64 * region);
-            written.at("write", &parts.queues)?;
-        }
-        queues.sync_all().at("write", &parts.queues)?;
-        let index = zeros(&parts.index, index_length(&plan)?)?;
-        index.sync_all().at("write", &parts.index)?;
-        sync_folder(&parts.index_folder)?;
-        sync_folder(&parts.store)?;
-
-        write_whole(&self.folder.join("plan"), plan.to_text().as_bytes())?;
-        sync_folder(&self.store)?;
-        Ok(self.work(plan))
+        let work = self.work(plan);
+        work.make_files()?;
+        let path = work.claim.folder.join("plan");
+        write_whole(&path, work.plan.to_text().as_bytes())?;
+        sync_folder(&work.claim.store)?;
+        Ok(work)
     }
 
-    /// Goes on from the last journal.
+    /// Goes on from the last journal. Without one nothing counts that stands in the work files.
     pub fn resume(self, plan: Plan) -> Result<Work, Failure> {
         let mut work = self.work(plan);
-        if work.parts.journal.exists() {
-            work.apply_journal()?;
+        if !work.parts.journal.exists() {
+            work.make_files()?;
+            return Ok(work);
         }
+        work.apply_journal()?;
         if work.state.stage == Stage::Building {
             work.clear_items()?;
         }
@@ -142,6 +130,7 @@ impl Claim {
             parts,
             state,
             targets: None,
+            pending: None,
         }
     }
 }
@@ -193,18 +182,11 @@ impl Target {
     }
 }
 
-/// How far a rebuild is: entries of each queue, and the used count of its index.
-#[derive(Clone, Copy)]
-struct Reached {
-    counts: [QueueOffset; 16],
-    used: u64,
-}
-
 struct Targets {
     queues: Target,
     index: Target,
-    /// Up to here the files have entries and items.
-    brought: Reached,
+    /// The used count up to which the index file has items.
+    brought: u64,
 }
 
 impl Targets {
@@ -212,26 +194,41 @@ impl Targets {
         Bytes(&self.index.bytes).used()
     }
 
-    /// Brings new entries and items to the files, where they count once a journal says so.
-    fn bring_new(&mut self, plan: &Plan, progress: &Progress) -> io::Result<()> {
-        let (before, slots) = (self.brought, plan.index.slots);
-        let region = plan.entries.0 * QueueEntries::ENTRY_BYTES;
-        let rows = before.counts.iter().zip(&progress.counts).enumerate();
+    /// Brings new items to the file, where they count once a journal says so.
+    fn bring_items(&mut self, slots: u64) -> io::Result<()> {
+        let used = self.used();
+        if self.brought < used {
+            let new = item_place(slots, self.brought)..item_place(slots, used);
+            self.index.bring(new)?;
+            self.brought = used;
+        }
+        Ok(())
+    }
+
+    /// The same for the entries of queues.
+    fn bring_entries(
+        &mut self,
+        entries: QueueEntries,
+        before: &Progress,
+        after: &Progress,
+    ) -> io::Result<()> {
+        let region = entries.0 * QueueEntries::ENTRY_BYTES;
+        let rows = before.counts.iter().zip(&after.counts).enumerate();
         for (number, (old, new)) in rows.filter(|(_, (old, new))| old < new) {
             let start = number as u64 * region;
             let bytes = start + entry_bytes(*old)..start + entry_bytes(*new);
             self.queues.bring(bytes)?;
         }
-        let used = self.used();
-        if before.used < used {
-            let bytes = item_place(slots, before.used)..item_place(slots, used);
-            self.index.bring(bytes)?;
-        }
-        self.brought = Reached {
-            counts: progress.counts,
-            used,
-        };
         Ok(())
+    }
+
+    /// Brings changed slots and the header to the file.
+    fn apply(&self, changes: &[Range<u64>]) -> io::Result<()> {
+        let mut changes = changes.iter();
+        changes.try_for_each(|change| {
+            let bytes = &self.index.bytes[change.start as usize..change.end as usize];
+            self.index.file.write_all_at(bytes, change.start)
+        })
     }
 
     fn sync(&self) -> io::Result<()> {
@@ -240,14 +237,23 @@ impl Targets {
     }
 }
 
+/// A batch that is done in memory.
+struct Batch {
+    after: State,
+    used_before: u64,
+}
+
 /// A rebuild with its plan.
 pub struct Work {
     claim: Claim,
     pub plan: Plan,
     directory: Vec<u8>,
     parts: Parts,
-    pub state: State,
+    /// What the journal says.
+    state: State,
     targets: Option<Targets>,
+    /// The only batch, if it reached the log's end: it may go to its place without a journal of its own.
+    pending: Option<Batch>,
 }
 
 impl Work {
@@ -281,19 +287,30 @@ impl Work {
                 Err(refusal) => return self.refused(refusal),
             };
             steps += done.steps;
-            let brought = targets.bring_new(&self.plan, &after.progress);
-            brought.at("write", &self.claim.folder)?;
+            let brought = targets.bring_items(self.plan.index.slots);
+            brought.at("write", &self.parts.index)?;
             shown(after.progress.position, steps);
             if done.stop != Answer::BudgetSpent || steps == budget {
                 break done.stop;
             }
         };
         after.steps += steps;
-        if steps > 0 {
-            self.keep(&targets, after, used_before)?;
-        }
         self.targets = Some(targets);
+        if steps > 0 {
+            let only = stop == Answer::Done && self.state.steps == 0;
+            self.pending = Some(Batch { after, used_before });
+            if !only {
+                self.keep()?;
+            }
+        }
         Ok(Dispatched { stop, steps })
+    }
+
+    /// How far it is.
+    pub fn state(&self) -> State {
+        self.pending
+            .as_ref()
+            .map_or(self.state, |batch| batch.after)
     }
 
     fn refused<T>(&self, refusal: Answer) -> Result<T, Failure> {
@@ -304,28 +321,66 @@ impl Work {
         ))
     }
 
-    /// Writes the journal of a batch, by which it counts, and brings it to the index.
-    fn keep(&mut self, targets: &Targets, after: State, used_before: u64) -> Result<(), Failure> {
+    /// Writes the journal of the batch that is done, by which it counts, and brings it to the index.
+    pub fn keep(&mut self) -> Result<(), Failure> {
+        let Some(Batch { after, used_before }) = self.pending.take() else {
+            return Ok(());
+        };
+        let mut targets = self.take_targets()?;
+        let brought =
+            targets.bring_entries(self.plan.entries, &self.state.progress, &after.progress);
+        brought.at("write", &self.parts.queues)?;
+        // What the journal that goes now has promised is brought to the disk with it.
+        targets.sync().at("write", &self.claim.folder)?;
         let index = &targets.index.bytes;
         let changes = index_changes(&Bytes(index), self.plan.index.slots, used_before);
-        let changed = |change: &Range<u64>| &index[change.start as usize..change.end as usize];
-        // Entries and items of this batch, and what the journal that goes now has promised.
-        targets.sync().at("write", &self.claim.folder)?;
         let write = || {
             let mut journal = Writer::create(&self.parts.journal_part, &after)?;
             for change in &changes {
-                journal.patch(change.start, changed(change))?;
+                let bytes = &index[change.start as usize..change.end as usize];
+                journal.patch(change.start, bytes)?;
             }
             journal.finish()
         };
         write().at("write", &self.parts.journal_part)?;
         self.commit_journal()?;
         self.state = after;
-        let file = &targets.index.file;
-        let mut changes = changes.iter();
-        let applied =
-            changes.try_for_each(|change| file.write_all_at(changed(change), change.start));
-        applied.at("write", &self.parts.index)
+        targets.apply(&changes).at("write", &self.parts.index)?;
+        self.targets = Some(targets);
+        Ok(())
+    }
+
+    /// Brings the only batch to the index. Until a journal says that results are being placed, a start begins anew.
+    fn finish_only_batch(&mut self) -> Result<(), Failure> {
+        if let Some(Batch { after, used_before }) = self.pending.take() {
+            let targets = self.take_targets()?;
+            let index = Bytes(&targets.index.bytes);
+            let changes = index_changes(&index, self.plan.index.slots, used_before);
+            targets.apply(&changes).at("write", &self.parts.index)?;
+            self.state = after;
+            self.targets = Some(targets);
+        }
+        Ok(())
+    }
+
+    /// Work files of zeros, and the places before the first entry of a queue as RocketMQ fills them.
+    fn make_files(&self) -> Result<(), Failure> {
+        let (parts, plan) = (&self.parts, &self.plan);
+        fs::create_dir_all(&parts.index_folder).at("create", &parts.index_folder)?;
+        let queues = zeros(&parts.queues, queues_length(plan)?)?;
+        let region = plan.entries.0 * QueueEntries::ENTRY_BYTES;
+        for (number, row) in plan.rows.iter().enumerate() {
+            let mut entry = [0; 20];
+            entry[8..12].copy_from_slice(&NO_RECORD.to_be_bytes());
+            let filled = entry.repeat(row.start.0 as usize);
+            let written = queues.write_all_at(&filled, number as u64 * region);
+            written.at("write", &parts.queues)?;
+        }
+        queues.sync_all().at("write", &parts.queues)?;
+        let index = zeros(&parts.index, index_length(plan)?)?;
+        index.sync_all().at("write", &parts.index)?;
+        sync_folder(&parts.index_folder)?;
+        sync_folder(&parts.store)
     }
 
     /// The work files with what they have so far.
@@ -355,7 +410,7 @@ impl Work {
             let items = item_place(slots, 1)..item_place(slots, used);
             index.load(&index_file, items).at("read", path)?;
         }
-        let used = Bytes(&index).used();
+        let brought = Bytes(&index).used();
         Ok(Targets {
             queues: Target {
                 file: queues_file,
@@ -367,7 +422,7 @@ impl Work {
                 bytes: index,
                 from: item_place(self.plan.index.slots, 0),
             },
-            brought: Reached { counts, used },
+            brought,
         })
     }
 
@@ -431,6 +486,9 @@ impl Work {
     }
 
     pub fn items(&self) -> Result<u64, Failure> {
+        if let Some(targets) = &self.targets {
+            return Ok(targets.used() - 1);
+        }
         let index = match self.parts.index.exists() {
             true => self.parts.index.clone(),
             false => self.claim.store.join("index").join(&self.plan.index_name),
@@ -455,6 +513,7 @@ impl Work {
     pub fn place(mut self) -> Result<Vec<PathBuf>, Failure> {
         let time = self.time_of_kept()?;
         if self.state.stage == Stage::Building {
+            self.finish_only_batch()?;
             self.write_queue_files()?;
             self.state.stage = Stage::Placing;
             let journal = Writer::create(&self.parts.journal_part, &self.state);
@@ -513,9 +572,11 @@ impl Work {
             fs::remove_dir_all(&consumequeue).at("remove", &consumequeue)?;
         }
         let targets = self.take_targets()?;
-        targets.sync().at("write", &self.claim.folder)?;
+        let index_length = index_length(&self.plan)? as u64;
+        begin_to_sync(&targets.index.file, 0..index_length);
         let queues = &targets.queues.bytes;
         let region = (self.plan.entries.0 * QueueEntries::ENTRY_BYTES) as usize;
+        let mut written = Vec::new();
         for (number, row) in self.plan.rows.iter().enumerate() {
             let folder = row.queue.folder(&consumequeue)?;
             fs::create_dir_all(&folder).at("create", &folder)?;
@@ -523,8 +584,14 @@ impl Work {
             let file = zeros(&path, region)?;
             let in_use = entry_bytes(self.state.progress.counts[number]) as usize;
             let bytes = &queues[number * region..number * region + in_use];
-            let written = file.write_all_at(bytes, 0).and_then(|()| file.sync_all());
-            written.at("write", &path)?;
+            file.write_all_at(bytes, 0).at("write", &path)?;
+            begin_to_sync(&file, 0..in_use as u64);
+            written.push((file, path, folder));
+        }
+        // The disk has begun with all of them.
+        targets.sync().at("write", &self.claim.folder)?;
+        for (file, path, folder) in written {
+            file.sync_all().at("write", &path)?;
             for folder in folder.ancestors().take(2) {
                 sync_folder(folder)?;
             }

@@ -449,13 +449,13 @@ fn long_hosts_are_a_limit() {
     let found = query(&store, &["--topic", "T", "--key", "k"]);
     found.is(0, "3 records of").is(
         0,
-        "6 items of the index left out: their records have hosts of 20 bytes (IPv6)",
+        "6 items of the index left out, the first at position 104: hosts of 20 bytes (IPv6)",
     );
     tool("queue", &store, &["--topic", "T", "--queue", "0"])
         .is(0, "3 records of queue T/0")
         .is(
             0,
-            "6 entries left out: their records have hosts of 20 bytes (IPv6)",
+            "6 entries left out, the first at position 104: hosts of 20 bytes (IPv6)",
         );
     let at = puts[2].position.to_string();
     bare(&["show", store.to_str().unwrap(), &at]).is(2, "it cannot be shown");

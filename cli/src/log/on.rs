@@ -84,6 +84,20 @@ impl Skipped {
     }
 }
 
+/// A sentence on several parts; on one of them it is its own.
+pub fn sentence_on(parts: &[Skipped]) -> Option<String> {
+    let first = parts.first()?.sentence();
+    let bytes: u64 = parts.iter().map(Skipped::bytes).sum();
+    Some(match parts.len() {
+        1 => first,
+        _ => format!(
+            "in {}, {} bytes in all, the first one {first}",
+            counted(parts.len() as u64, "part", "parts"),
+            grouped(bytes)
+        ),
+    })
+}
+
 impl Log {
     /// Reads from a position to the end of all files. `each` sees what is read, and each part that is passed over; it goes on
     /// by answering true.

@@ -223,6 +223,8 @@ pub struct Runs {
     pub faults: Vec<String>,
     /// What is beyond a limit of the archive, though it may be sound.
     pub limits: Vec<String>,
+    /// Where the part of the log begins that is above the limit of positions.
+    pub above: Option<u64>,
 }
 
 impl Runs {
@@ -235,16 +237,18 @@ impl Runs {
             }],
             faults: Vec::new(),
             limits: Vec::new(),
+            above: None,
         };
         // Whether the next segment goes on where the one before it ends.
         let mut joined = true;
         for Named { first, segment } in named {
             if first.saturating_add(size) > LAST_END {
-                runs.limits.push(above_limit(first, size));
+                runs.limits.push(above_limit(&name_of(&segment)));
+                runs.above = Some(first);
                 break;
             }
             if !first.is_multiple_of(size) {
-                let name = segment.map_or_else(|why| why, |segment| shown_path(segment.path));
+                let name = name_of(&segment);
                 runs.faults.push(format!(
                     "{name}: its name is no multiple of the segment size {size}; it is not read"
                 ));
@@ -301,10 +305,18 @@ impl Runs {
     }
 }
 
-fn above_limit(first: u64, size: u64) -> String {
+/// The file, or why it cannot be read, which begins with it.
+fn name_of(segment: &Result<Segment, String>) -> String {
+    match segment {
+        Ok(segment) => shown_path(&segment.path),
+        Err(why) => why.clone(),
+    }
+}
+
+fn above_limit(name: &str) -> String {
     format!(
-        "the segment at {first} ends at {}, above {LAST_END} (2^40), up to which this tool reads a log: it and all behind it \
-         are not read, though they may be sound",
-        first.saturating_add(size)
+        "{name}: it ends above 2^40 ({}), up to which this tool reads a log; it and all behind it are not read, though they \
+         may be sound",
+        grouped(LAST_END)
     )
 }

@@ -2,9 +2,9 @@
 
 use crate::failure::Failure;
 use crate::index::{Bytes, Index};
-use crate::log::{Log, Met, Place, Skipped};
+use crate::log::{self, Log, Met, Place, Skipped, LAST_END};
 use crate::properties::{has_items, Names};
-use crate::record::{self, Read};
+use crate::record::{self, LeftOut, Read};
 use crate::text::{counted, grouped};
 use std::cmp::Reverse;
 use swistopal::{query, Answer, Entry, LogPosition, Message, Query};
@@ -51,10 +51,7 @@ pub struct Search<'a> {
     pub faults: Vec<String>,
     /// What is not read because of a limit of the archive.
     pub limits: Vec<String>,
-    /// Items of records with hosts of 20 bytes.
-    pub long_hosts: u64,
-    /// Items of records that stood before the log's first one.
-    pub older: u64,
+    pub left_out: LeftOut,
     /// The first damage that was met.
     damage: Option<LogPosition>,
 }
@@ -73,8 +70,7 @@ impl<'a> Search<'a> {
             records_read: 0,
             faults: log.faults.clone(),
             limits: log.limits.clone(),
-            long_hosts: 0,
-            older: 0,
+            left_out: LeftOut::default(),
             damage: None,
         }
     }
@@ -93,6 +89,22 @@ impl<'a> Search<'a> {
     fn damaged_at(&mut self, position: LogPosition) {
         let first = self.damage.unwrap_or(position);
         self.damage = Some(first.min(position));
+    }
+
+    /// The indexes that the archive can be asked. One that goes on above the limit of positions is left out.
+    pub fn within_limits<'i>(&mut self, indexes: &'i [Index]) -> Vec<&'i Index> {
+        let mut within = Vec::new();
+        for index in indexes {
+            match Bytes(&index.bytes).last_position() {
+                Some(last) if last > LAST_END => self.limits.push(format!(
+                    "index {}: it goes on to position {last}, above 2^40, up to which this tool reads an index; it is not asked, \
+                     and the log was looked through instead",
+                    index.name
+                )),
+                _ => within.push(index),
+            }
+        }
+        within
     }
 
     /// Asks one index for so many records at most, and says how many there are. Keys that only share the hash take places
@@ -145,8 +157,7 @@ impl<'a> Search<'a> {
         self.found.append(&mut other.found);
         self.faults.append(&mut other.faults);
         self.limits.append(&mut other.limits);
-        self.long_hosts += other.long_hosts;
-        self.older += other.older;
+        self.left_out.add(other.left_out);
         self.same_hash_only += other.same_hash_only;
         self.items_read += other.items_read;
         if let Some(position) = other.damage {
@@ -197,12 +208,7 @@ impl<'a> Search<'a> {
 
     /// An index names a position where no record is read.
     fn not_read(&mut self, position: LogPosition, answer: Answer, name: &str) {
-        if position < self.log.first() {
-            self.older += 1;
-            return;
-        }
-        if self.log.long_hosts(position).is_some() {
-            self.long_hosts += 1;
+        if self.left_out.takes(self.log, position) {
             return;
         }
         self.damaged_at(position);
@@ -216,6 +222,7 @@ impl<'a> Search<'a> {
     /// Looks through the log from a position on.
     pub fn scan(&mut self, from: LogPosition) -> Result<(), Failure> {
         let log = self.log;
+        let mut passed_over = Vec::new();
         log.walk_on(from, |met| {
             match met {
                 Met::Entry {
@@ -233,10 +240,11 @@ impl<'a> Search<'a> {
                         });
                     }
                 }
-                Met::Skipped(skipped) => self.tell_passed_over(&skipped),
+                Met::Skipped(skipped) => passed_over.push(skipped),
             }
             Ok(true)
         })?;
+        self.tell_passed_over(passed_over);
         Ok(())
     }
 
@@ -246,32 +254,36 @@ impl<'a> Search<'a> {
         }
     }
 
-    fn tell_passed_over(&mut self, skipped: &Skipped) {
-        self.passed_over(skipped);
-        let sentence = skipped.sentence();
-        match skipped.is_damage() {
-            true => self.faults.push(format!(
-                "the log cannot be read {sentence}; what is behind was looked through"
-            )),
-            false => self.limits.push(format!("left out {sentence}")),
-        }
+    /// What was passed over while the log was looked through.
+    fn tell_passed_over(&mut self, parts: Vec<Skipped>) {
+        parts.iter().for_each(|skipped| self.passed_over(skipped));
+        let (damaged, left_out): (Vec<Skipped>, Vec<Skipped>) =
+            parts.into_iter().partition(Skipped::is_damage);
+        let damaged = log::sentence_on(&damaged).map(|sentence| {
+            format!("the log cannot be read {sentence}; what is behind was looked through")
+        });
+        self.faults.extend(damaged);
+        let left_out = log::sentence_on(&left_out);
+        self.limits
+            .extend(left_out.map(|sentence| format!("left out {sentence}")));
     }
 
     /// Looks through the part of the log that the index does not reach: from the last record that has an item on. That there
     /// are records with keys, or damage, is a fault. Zeros are taken for the log's end: what may stand behind them is for
     /// `check` to look at.
-    pub fn look_behind(&mut self, indexes: &[Index], store: &str) -> Result<(), Failure> {
+    pub fn look_behind(&mut self, indexes: &[&Index], store: &str) -> Result<(), Failure> {
         let log = self.log;
-        let last_of = |index: &Index| Bytes(&index.bytes).last_position().map(LogPosition);
-        let Some(newest) = indexes.iter().max_by_key(|index| last_of(index)) else {
+        let last_of = |index: &&&Index| Bytes(&index.bytes).last_position().map(LogPosition);
+        let Some(newest) = indexes.iter().max_by_key(last_of) else {
             return self.scan(log.first());
         };
-        let (name, last) = (&newest.name, last_of(newest));
+        let (name, last) = (&newest.name, last_of(&newest));
         let start = last.unwrap_or_default().max(log.first());
         let mut missed = Missed { last, first: None };
         let start = self.start_behind(start, name)?;
         let position = self.read_on(start, &mut missed);
         if !log.ends_at(position) {
+            let mut passed_over = Vec::new();
             log.walk_on(position, |met| {
                 match met {
                     Met::Entry {
@@ -279,10 +291,11 @@ impl<'a> Search<'a> {
                         entry,
                         behind,
                     } => self.see_behind(position, entry, behind, &mut missed),
-                    Met::Skipped(skipped) => self.tell_passed_over(&skipped),
+                    Met::Skipped(skipped) => passed_over.push(skipped),
                 }
                 Ok(true)
             })?;
+            self.tell_passed_over(passed_over);
         }
         if let Some(first) = missed.first {
             let reach = match last {
