@@ -26,59 +26,51 @@ pub fn run(args: &Args) -> Result<Outcome, Failure> {
     let resync = args.flag("--resync");
     let from = start(args, &log, resync)?;
     let mut listing = Listing::start(args)?;
-    let mut cut = false;
-    let mut stopped = false;
-    let mut end = log.walk_on(from, |met| {
-        match met {
-            Met::Entry { behind: true, .. } if !resync => stopped = true,
-            Met::Entry {
-                position,
-                entry,
-                behind,
-            } => {
-                if wanted.takes(&entry) {
-                    cut = listing.entries == limit;
-                    if !cut {
-                        listing.entry(position, &entry, behind)?;
-                    }
-                }
-            }
-            Met::Skipped(skipped) if resync || !skipped.is_damage() => listing.skipped(&skipped)?,
-            Met::Skipped(_) => stopped = true,
-        }
-        Ok(!cut && !stopped)
-    })?;
-    if stopped {
-        end = log.walk(end.position, |_, _| Ok(true))?;
-    }
+    let (end, how) = listing.read(&log, from, resync, limit, &mut wanted)?;
+    let place = match how {
+        How::Stopped => format!("the log up to {}", end.position.0),
+        _ => String::from("the log"),
+    };
     let mut hints = seconds(args, &["--from-time", "--to-time"]);
-    hints.extend(wanted.hints("the log"));
-    listing.end(&log, &end, cut, &hints)?;
-    if cut {
-        let next = end.position.0;
-        note(&format!(
-            "cut at --limit {limit}: more follow; --from {next} goes on"
-        ));
-    } else if !end.sound() || end.why == Why::Zeros {
-        note(&format!("the log {}", end.sentence()));
-    }
-    if end.answer == Answer::NotReadable && args.value("--end").is_some() {
-        hints.push(format!(
-            "--end {} is inside the record at {}",
-            log.end().0,
+    hints.extend(wanted.hints(&place));
+    listing.end(&log, &end, how == How::Cut, &hints)?;
+    match how {
+        How::Cut => note(&format!(
+            "cut at --limit {limit}: more follow; --from {} goes on",
             end.position.0
-        ));
+        )),
+        _ if !end.sound() || end.why == Why::Zeros => note(&format!("the log {}", end.sentence())),
+        _ => {}
+    }
+    if how == How::Stopped {
+        let next = end.position.0;
+        hints.push(match args.value("--end") {
+            Some(_) if end.answer == Answer::NotReadable => {
+                format!("--end {} is inside the record at {next}", log.end().0)
+            }
+            _ => format!("--resync goes on behind {next}"),
+        });
     }
     log::tell(&hints);
     listing.tell();
     log::tell(&log.faults);
     log::tell(&log.limits);
-    let sound = (end.sound() || cut) && log.faults.is_empty() && !listing.damaged();
-    Ok(if sound {
-        Outcome::Sound
-    } else {
-        Outcome::Fault
+    let sound = end.sound() || how == How::Cut;
+    Ok(match sound && log.faults.is_empty() && !listing.damaged() {
+        true => Outcome::Sound,
+        false => Outcome::Fault,
     })
+}
+
+/// How a listing ended.
+#[derive(Clone, Copy, PartialEq, Eq)]
+enum How {
+    /// With the log.
+    Whole,
+    /// At the limit.
+    Cut,
+    /// At damage.
+    Stopped,
 }
 
 fn mark(behind: bool) -> &'static str {
@@ -142,6 +134,48 @@ impl Listing {
             entries: 0,
             skipped: Vec::new(),
         })
+    }
+
+    fn read(
+        &mut self,
+        log: &Log,
+        from: LogPosition,
+        resync: bool,
+        limit: u64,
+        wanted: &mut Wanted,
+    ) -> Result<(End, How), Failure> {
+        let mut how = How::Whole;
+        // Who starts behind a fault of the files has seen it.
+        let behind_at_first = log.is_behind_a_fault(from);
+        let end = log.walk_on(from, |met| {
+            match met {
+                Met::Entry { behind: true, .. } if !resync && !behind_at_first => {
+                    how = How::Stopped;
+                }
+                Met::Entry {
+                    position,
+                    entry,
+                    behind,
+                } if wanted.takes(&entry) => match self.entries == limit {
+                    true => how = How::Cut,
+                    false => self.entry(position, &entry, behind)?,
+                },
+                Met::Entry { .. } => {}
+                Met::Skipped(skipped) if resync || !skipped.is_damage() => {
+                    self.skipped(&skipped)?;
+                }
+                Met::Skipped(_) => how = How::Stopped,
+            }
+            Ok(how == How::Whole)
+        })?;
+        if how != How::Stopped {
+            return Ok((end, how));
+        }
+        let end = match log.entry(end.position) {
+            Err(answer) if behind_at_first => End::stopped(end.position, answer),
+            _ => log.walk(end.position, |_, _| Ok(true))?,
+        };
+        Ok((end, how))
     }
 
     fn entry(&mut self, position: LogPosition, entry: &Entry, behind: bool) -> Result<(), Failure> {

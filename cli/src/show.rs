@@ -56,6 +56,12 @@ fn inside(read: &Read) -> String {
 /// The record that a position lies in.
 fn find(log: &Log, asked: LogPosition) -> Result<Read<'_>, Failure> {
     let (first, end) = (log.first().0, log.files_end().0);
+    if log.is_above_limit(asked) {
+        return usage(format!(
+            "position {}: it is above 2^40, up to which this tool reads a log",
+            asked.0
+        ));
+    }
     if !(first..end).contains(&asked.0) {
         return usage(format!(
             "position {}: the log's files go from {first} to {end}",

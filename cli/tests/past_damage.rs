@@ -71,7 +71,9 @@ fn one_bad_record_hides_no_other() {
         // Without the option it ends there, as the lister does.
         tool("list", &store, &[])
             .is(1, "the log stops at 6696 with 10")
+            .is(1, "--resync goes on behind 6696")
             .shows("\nstop 10\n");
+        tool("list", &store, &["--topic", "NOPE"]).is(1, "the log up to 6696 has no topic NOPE");
         let long = tool("list", &store, &["--resync", "--long"]);
         long.is(1, "").shows("(behind damage)");
         long.shows("\n6696 192 damage 10\n");
@@ -227,6 +229,20 @@ fn missing_short_and_long_segments_hide_no_other() {
     tool("list", &store, &["--resync"])
         .is(1, "the segment at 16384 is missing before it")
         .shows("\n16384 16384 damage missing\n32768 ");
+    // From behind the hole: that is what was asked for.
+    let run = tool("list", &store, &["--from", "32768"]);
+    assert_eq!(
+        entries(&run.is(1, "is missing before it").out),
+        (all[2..].concat(), 63)
+    );
+    edit(&segment(&store, 49_152), |bytes| bytes[4] ^= 1);
+    let run = tool("list", &store, &["--from", "32768"]);
+    run.is(1, "the log stops at 49152 with 10: the record is damaged");
+    assert_eq!(entries(&run.out).0, all[2]);
+    tool("list", &store, &["--from", "20000"]).is(
+        2,
+        "it is inside a part that cannot be read, from 16384 to 32768, 16,384 bytes: no file that can be read has them",
+    );
     let two = harmed("two", &|store| {
         remove(16_384)(store);
         remove(49_152)(store);

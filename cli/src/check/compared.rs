@@ -127,7 +127,8 @@ impl<'a> Comparer<'a> {
         let made = made.filter(|made| made.stop == Answer::Done);
         match (made, &merge.files[..]) {
             (Some(made), [merged]) if merged.same == merge.given && merged.is_all_the_same() => {
-                match exact::difference(made, merged.index) {
+                let cut = self.log.first() > LogPosition(0);
+                match exact::difference(made, merged.index, cut) {
                     Some(differs) => Others::Differ(differs),
                     None => Others::Same,
                 }
