@@ -18,6 +18,10 @@ use swistopal::{Answer, Dispatched, Entry, LogPosition};
 
 /// Steps between two journals.
 const BATCH: u64 = 1 << 21;
+const NOTHING_LEFT: Dispatched = Dispatched {
+    stop: Answer::Done,
+    steps: 0,
+};
 
 pub fn run(args: &Args) -> Result<Outcome, Failure> {
     let store = args.place();
@@ -34,14 +38,15 @@ pub fn run(args: &Args) -> Result<Outcome, Failure> {
     broker::refuse(store, after_crash)?;
     let place = results_folder(store, args, after_crash)?;
 
-    let (mut work, end) = open(&place, &log, &sizes, listed, args)?;
+    let (mut work, known) = open(&place, &log, &sizes, listed, args)?;
     let building = work.state().stage == Stage::Building;
-    let done = match building {
-        true => dispatch_all(&mut work, &log, &end, budget, batch)?,
-        false => Dispatched {
-            stop: Answer::Done,
-            steps: 0,
-        },
+    let built = match known {
+        Some(end) if !building => Ok((NOTHING_LEFT, end)),
+        known => build(&mut work, &log, known, (budget, batch), args),
+    };
+    let (done, end) = match built {
+        Ok(built) => built,
+        Err(failure) => return leave(work, failure),
     };
     let mut made = Made::of(&work, done, &log, &end)?;
     if made.caught_up() {
@@ -50,9 +55,7 @@ pub fn run(args: &Args) -> Result<Outcome, Failure> {
                 .extend(loss::of(&place, &made.plan, &made.state, made.items)?);
             let asked = made.ask(args, &end);
             if let Err(failure) = asked.and_then(|()| broker::refuse(&place, after_crash)) {
-                // What was done is done when it is asked for.
-                work.keep()?;
-                return Err(failure);
+                return leave(work, failure);
             }
         }
         // First the files, then the report: nobody may be reading it.
@@ -71,6 +74,12 @@ pub fn run(args: &Args) -> Result<Outcome, Failure> {
     } else {
         Ok(Outcome::Sound)
     }
+}
+
+/// Ends without results. What went wrong first is told, whatever leaving brings.
+fn leave(work: Work, failure: Failure) -> Result<Outcome, Failure> {
+    let _ = work.leave();
+    Err(failure)
 }
 
 /// Where the results go: the store, or the folder of `--into`, which then is a store whose log is a link to this one.
@@ -101,37 +110,33 @@ fn results_folder(store: &Path, args: &Args, after_crash: bool) -> Result<PathBu
     Ok(into.to_path_buf())
 }
 
-/// The rebuild that is under way, or a new one, and where the log ends. Before all that was asked for has been judged, at most
-/// a lock is written.
+/// The rebuild that is under way and where the log ends, or a new one.
 fn open(
     place: &Path,
     log: &Log,
     sizes: &Sizes,
     listed: Option<Vec<Queue>>,
     args: &Args,
-) -> Result<(Work, End), Failure> {
+) -> Result<(Work, Option<End>), Failure> {
     let restart = args.flag("--restart");
     let mut claim = Claim::existing(place)?;
     if let Some(under_way) = claim.take_if(|_| !restart) {
         if let Some(plan) = work::plan_under_way(place)? {
             plan.agrees(log, sizes, listed.as_deref())?;
-            return go_on(under_way.resume(plan)?, log, args);
+            let (work, end) = go_on(under_way.resume(plan)?, log, args)?;
+            return Ok((work, Some(end)));
         }
         claim = Some(under_way);
     }
     if let Some(occupied) = work::results_in_the_way(place).filter(|_| !args.flag("--force")) {
         return in_the_way(&occupied);
     }
-    let mut meter = Meter::new("reading", log.first().0, log.end().0);
-    let shown = |position: LogPosition| meter.read(position.0);
-    let (plan, end) = Plan::with_end(log, sizes, listed, shown)?;
-    drop(meter);
-    ask_about_end(log, &end, args)?;
+    let (plan, search) = Plan::first(log, sizes, listed)?;
     if let Some(claim) = claim {
         claim.discard()?;
     }
     work::remove_finished(place)?;
-    Ok((Claim::create(place)?.begin(plan)?, end))
+    Ok((Claim::create(place)?.begin(plan, search)?, None))
 }
 
 fn go_on(work: Work, log: &Log, args: &Args) -> Result<(Work, End), Failure> {
@@ -198,29 +203,37 @@ fn ask_about_end(log: &Log, end: &End, args: &Args) -> Result<(), Failure> {
 }
 
 /// Batch after batch, until the log's end, a stop, or the budget.
-fn dispatch_all(
+fn build(
     work: &mut Work,
     log: &Log,
-    end: &End,
-    budget: u64,
-    batch: u64,
-) -> Result<Dispatched, Failure> {
-    let mut meter = Meter::new(
-        "rebuilding",
-        work.state().progress.position.0,
-        end.position.0,
-    );
-    let mut steps = 0;
-    loop {
-        let left = budget - steps;
-        let shown = |position: LogPosition, done| meter.show(position.0, steps + done);
-        let done = work.batch(log.bytes(), end.position, left.min(batch), shown)?;
-        steps += done.steps;
-        if done.stop != Answer::BudgetSpent || steps == budget {
-            let stop = done.stop;
-            return Ok(Dispatched { stop, steps });
+    known: Option<End>,
+    (budget, batch): (u64, u64),
+    args: &Args,
+) -> Result<(Dispatched, End), Failure> {
+    let from = work.state().progress.position;
+    let to = known.map_or(log.end(), |end| end.position);
+    let mut meter = Meter::new("rebuilding", from.0, to.0);
+    let (mut stop, mut steps) = (Answer::BudgetSpent, 0);
+    let end = match known {
+        Some(end) => end,
+        None => {
+            let shown = |position: LogPosition, done| meter.show(position.0, done);
+            let (done, end) = work.first_batch(log, budget.min(batch), shown)?;
+            ask_about_end(log, &end, args)?;
+            if done.stop != Answer::Done {
+                work.go_on()?;
+            }
+            (stop, steps) = (done.stop, done.steps);
+            end
         }
+    };
+    while stop == Answer::BudgetSpent && steps < budget {
+        let left = batch.min(budget - steps);
+        let shown = |position: LogPosition, done| meter.show(position.0, steps + done);
+        let done = work.batch(log, end.position, left, shown)?;
+        (stop, steps) = (done.stop, steps + done.steps);
     }
+    Ok((Dispatched { stop, steps }, end))
 }
 
 /// What a run came to.

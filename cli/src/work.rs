@@ -6,9 +6,10 @@
 use crate::failure::{fault, usage, At, Failure};
 use crate::index::{item_place, slot_place, Bytes};
 use crate::journal::{Journal, Stage, State, Writer};
+use crate::log::{End, Log};
 use crate::map::{begin_to_sync, page_size, Draft, View};
-use crate::plan::Plan;
-use crate::queues::{directory, FIRST_FILE, NO_RECORD};
+use crate::plan::{Plan, Refusal, Search};
+use crate::queues::{directory, FIRST_FILE, MOST_QUEUES, NO_RECORD};
 use crate::text::{grouped, shown_path};
 use crate::time;
 use std::fs::{self, File, OpenOptions, TryLockError};
@@ -18,7 +19,7 @@ use std::os::unix::fs::{FileExt, MetadataExt};
 use std::path::{Path, PathBuf};
 use std::time::{SystemTime, UNIX_EPOCH};
 use swistopal::{
-    dispatch, Answer, Dispatch, Dispatched, LogPosition, Progress, QueueEntries, QueueOffset,
+    dispatch, Answer, Dispatch, Dispatched, Entry, LogPosition, Progress, QueueEntries, QueueOffset,
 };
 
 const FOLDER: &str = "swistopal.rebuild";
@@ -87,13 +88,13 @@ impl Claim {
         remove(&finished).at("remove", &finished)
     }
 
-    /// Writes a plan with empty work files into a new folder. The plan comes last: without it nothing here counts.
-    pub fn begin(self, plan: Plan) -> Result<Work, Failure> {
-        let work = self.work(plan);
+    /// Empty work files in a new folder. Without a plan nothing in it counts.
+    pub fn begin(self, plan: Plan, search: Search) -> Result<Work, Failure> {
+        let mut work = self.work(plan);
         work.make_files()?;
-        let path = work.claim.folder.join("plan");
-        write_whole(&path, work.plan.to_text().as_bytes())?;
-        sync_folder(&work.claim.store)?;
+        // What stands before a queue's first entry is brought to the files with it.
+        work.state.progress = Progress::from_position(work.plan.log.first_position);
+        work.search = Some(search);
         Ok(work)
     }
 
@@ -131,6 +132,7 @@ impl Claim {
             state,
             targets: None,
             pending: None,
+            search: None,
         }
     }
 }
@@ -222,6 +224,18 @@ impl Targets {
         Ok(())
     }
 
+    /// Brings queues without an entry to their start.
+    fn fill(&mut self, plan: &Plan, progress: &mut Progress) {
+        let region = (plan.entries.0 * QueueEntries::ENTRY_BYTES) as usize;
+        for (number, row) in plan.rows.iter().enumerate() {
+            if progress.counts[number] < row.start {
+                progress.counts[number] = row.start;
+                let (from, filled) = (number * region, filled(row.start));
+                self.queues.bytes[from..from + filled.len()].copy_from_slice(&filled);
+            }
+        }
+    }
+
     /// Brings changed slots and the header to the file.
     fn apply(&self, changes: &[Range<u64>]) -> io::Result<()> {
         let mut changes = changes.iter();
@@ -252,44 +266,97 @@ pub struct Work {
     /// What the journal says.
     state: State,
     targets: Option<Targets>,
-    /// The only batch, if it reached the log's end: it may go to its place without a journal of its own.
+    /// The first batch, if it reached the log's end: it may go to its place without a journal of its own.
     pending: Option<Batch>,
+    /// As long as the plan is not written: how queues come into it.
+    search: Option<Search>,
 }
 
 impl Work {
+    /// The first batch of a new rebuild: the log is read once for the queues, for its end and for the steps. Nothing of it
+    /// counts before `go_on`.
+    pub fn first_batch(
+        &mut self,
+        log: &Log,
+        budget: u64,
+        mut shown: impl FnMut(LogPosition, u64),
+    ) -> Result<(Dispatched, End), Failure> {
+        let mut done = self.steps(log, log.end(), budget, &mut shown)?;
+        let after = self.state();
+        let position = after.progress.position;
+        let ends = [Answer::Done, Answer::Damaged, Answer::NotReadable];
+        let end = match &self.search {
+            Some(search) if !ends.contains(&done.stop) => {
+                let shown = |position| shown(position, done.steps);
+                let counts = &after.progress.counts;
+                search.rest(&mut self.plan, log, position, counts, shown)?
+            }
+            // It stops where reading does: that is the log's end, or damage.
+            _ => {
+                done.stop = Answer::Done;
+                log.walk(position, |_, _| Ok(true))?
+            }
+        };
+        Ok((done, end))
+    }
+
+    /// Writes the plan, and what has been done so far.
+    pub fn go_on(&mut self) -> Result<(), Failure> {
+        self.directory = directory(&self.plan.queues());
+        if let (Some(targets), Some(batch)) = (&mut self.targets, &mut self.pending) {
+            targets.fill(&self.plan, &mut batch.after.progress);
+        }
+        self.write_plan()?;
+        self.keep()
+    }
+
+    /// Leaves what was done for whoever goes on; a rebuild without a plan leaves nothing.
+    pub fn leave(mut self) -> Result<(), Failure> {
+        match self.search {
+            Some(_) => self.claim.discard(),
+            None => self.keep(),
+        }
+    }
+
     /// At most so many steps, done as a whole: after a crash either all of them stand or none. `shown` is told the position
     /// and the steps now and then.
     pub fn batch(
         &mut self,
-        log: &[u8],
+        log: &Log,
         readable_end: LogPosition,
         budget: u64,
         mut shown: impl FnMut(LogPosition, u64),
     ) -> Result<Dispatched, Failure> {
+        let done = self.steps(log, readable_end, budget, &mut shown)?;
+        self.keep()?;
+        Ok(done)
+    }
+
+    /// Steps in memory. Items are brought to the file meanwhile.
+    fn steps(
+        &mut self,
+        log: &Log,
+        readable_end: LogPosition,
+        budget: u64,
+        shown: &mut impl FnMut(LogPosition, u64),
+    ) -> Result<Dispatched, Failure> {
         let mut targets = self.take_targets()?;
         let used_before = targets.used();
         let mut after = self.state;
-        let mut call = Dispatch {
-            log,
-            log_geometry: self.plan.log,
-            readable_end,
-            directory: &self.directory,
-            queue_entries: self.plan.entries,
-            index_geometry: self.plan.index,
-            budget: 0,
-        };
+        for (count, row) in after.progress.counts.iter_mut().zip(&self.plan.rows) {
+            *count = row.start.max(*count);
+        }
         let mut steps = 0;
         let stop = loop {
-            call.budget = PIECE.min(budget - steps);
-            let (queues, index) = (&mut targets.queues.bytes, &mut targets.index.bytes);
-            let done = match dispatch(&call, &mut after.progress, queues, index) {
-                Ok(done) => done,
-                Err(refusal) => return self.refused(refusal),
-            };
+            let left = PIECE.min(budget - steps);
+            let done = self.dispatch(log, readable_end, left, &mut targets, &mut after.progress)?;
             steps += done.steps;
             let brought = targets.bring_items(self.plan.index.slots);
             brought.at("write", &self.parts.index)?;
             shown(after.progress.position, steps);
+            if self.takes_queue(log, done.stop, &mut targets, &mut after.progress)? {
+                continue;
+            }
             if done.stop != Answer::BudgetSpent || steps == budget {
                 break done.stop;
             }
@@ -297,13 +364,60 @@ impl Work {
         after.steps += steps;
         self.targets = Some(targets);
         if steps > 0 {
-            let only = stop == Answer::Done && self.state.steps == 0;
             self.pending = Some(Batch { after, used_before });
-            if !only {
-                self.keep()?;
-            }
         }
         Ok(Dispatched { stop, steps })
+    }
+
+    fn dispatch(
+        &self,
+        log: &Log,
+        readable_end: LogPosition,
+        budget: u64,
+        targets: &mut Targets,
+        progress: &mut Progress,
+    ) -> Result<Dispatched, Failure> {
+        let call = Dispatch {
+            log: log.bytes(),
+            log_geometry: self.plan.log,
+            readable_end,
+            directory: &self.directory,
+            queue_entries: self.plan.entries,
+            index_geometry: self.plan.index,
+            budget,
+        };
+        let length = self.plan.entries.buffer_length(self.plan.rows.len() as u64);
+        let queues = &mut targets.queues.bytes[..length.unwrap_or(0)];
+        let done = dispatch(&call, progress, queues, &mut targets.index.bytes);
+        done.or_else(|refusal| self.refused(refusal))
+    }
+
+    /// Whether a stop is one at a queue that comes into the plan now.
+    fn takes_queue(
+        &mut self,
+        log: &Log,
+        stop: Answer,
+        targets: &mut Targets,
+        progress: &mut Progress,
+    ) -> Result<bool, Failure> {
+        let stops = [Answer::QueueNotListed, Answer::OutOfStep];
+        let position = progress.position;
+        let (Some(search), Ok(Entry::Record { message, .. }), true) =
+            (&self.search, log.entry(position), stops.contains(&stop))
+        else {
+            return Ok(false);
+        };
+        match search.meet(&mut self.plan, position, &message, &progress.counts) {
+            Ok(false) => return Ok(false),
+            Ok(true) => {}
+            Err(why) => {
+                let before = self.plan.has_entries(progress).then_some(position);
+                return Err(Refusal { why, before }.into());
+            }
+        }
+        self.directory = directory(&self.plan.queues());
+        targets.fill(&self.plan, progress);
+        Ok(true)
     }
 
     /// How far it is.
@@ -350,6 +464,16 @@ impl Work {
         Ok(())
     }
 
+    /// Writes the plan, by which a rebuild has begun.
+    fn write_plan(&mut self) -> Result<(), Failure> {
+        if self.search.take().is_some() {
+            let path = self.claim.folder.join("plan");
+            write_whole(&path, self.plan.to_text().as_bytes())?;
+            sync_folder(&self.claim.store)?;
+        }
+        Ok(())
+    }
+
     /// Brings the only batch to the index. Until a journal says that results are being placed, a start begins anew.
     fn finish_only_batch(&mut self) -> Result<(), Failure> {
         if let Some(Batch { after, used_before }) = self.pending.take() {
@@ -370,10 +494,7 @@ impl Work {
         let queues = zeros(&parts.queues, queues_length(plan)?)?;
         let region = plan.entries.0 * QueueEntries::ENTRY_BYTES;
         for (number, row) in plan.rows.iter().enumerate() {
-            let mut entry = [0; 20];
-            entry[8..12].copy_from_slice(&NO_RECORD.to_be_bytes());
-            let filled = entry.repeat(row.start.0 as usize);
-            let written = queues.write_all_at(&filled, number as u64 * region);
+            let written = queues.write_all_at(&filled(row.start), number as u64 * region);
             written.at("write", &parts.queues)?;
         }
         queues.sync_all().at("write", &parts.queues)?;
@@ -389,7 +510,10 @@ impl Work {
             return Ok(targets);
         }
         let (queues_file, index_file) = self.open_targets()?;
-        let counts = self.state.progress.counts;
+        let mut counts = self.state.progress.counts;
+        for (count, row) in counts.iter_mut().zip(&self.plan.rows) {
+            *count = row.start.max(*count);
+        }
         let path = &self.parts.queues;
         let length = queues_length(&self.plan)?;
         let mut queues = Draft::for_file(&queues_file, length).at("map", path)?;
@@ -513,6 +637,7 @@ impl Work {
     pub fn place(mut self) -> Result<Vec<PathBuf>, Failure> {
         let time = self.time_of_kept()?;
         if self.state.stage == Stage::Building {
+            self.write_plan()?;
             self.finish_only_batch()?;
             self.write_queue_files()?;
             self.state.stage = Stage::Placing;
@@ -619,12 +744,20 @@ fn index_changes(index: &Bytes, slots: u64, used_before: u64) -> Vec<Range<u64>>
     [header].into_iter().chain(pieces).collect()
 }
 
+/// The places before a queue's first entry, as RocketMQ fills them.
+fn filled(start: QueueOffset) -> Vec<u8> {
+    let mut entry = [0; 20];
+    entry[8..12].copy_from_slice(&NO_RECORD.to_be_bytes());
+    entry.repeat(start.0 as usize)
+}
+
 fn entry_bytes(count: QueueOffset) -> u64 {
     count.0 * QueueEntries::ENTRY_BYTES
 }
 
+/// There is room for all queues that a plan may have.
 fn queues_length(plan: &Plan) -> Result<usize, Failure> {
-    let length = plan.entries.buffer_length(plan.rows.len() as u64);
+    let length = plan.entries.buffer_length(MOST_QUEUES as u64);
     length.map_or_else(|| fault(Answer::BadSizes.to_string()), Ok)
 }
 

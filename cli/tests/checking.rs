@@ -6,7 +6,7 @@ use common::broker::*;
 use common::*;
 use std::fs::{self, OpenOptions};
 use std::os::unix::fs::symlink;
-use std::path::Path;
+use std::path::{Path, PathBuf};
 use std::process::{Command, Stdio};
 use std::thread::sleep;
 use std::time::Duration;
@@ -175,12 +175,7 @@ fn an_index_that_was_cut_is_not_sound() {
     }
     let store = broker.finish();
     tool("check", &store, &[]).is(0, SOUND);
-    let mut paths: Vec<_> = fs::read_dir(store.join("index"))
-        .unwrap()
-        .map(|one| one.unwrap().path())
-        .collect();
-    paths.sort();
-    cut(&paths[1], 40 + 4 * 10 + 20 * 20);
+    cut(&index_files(&store)[1], 40 + 4 * 10 + 20 * 20);
     tool("check", &store, &[]).is(1, "480 bytes of 880; it is cut short");
 }
 
@@ -310,4 +305,211 @@ fn progress_is_told() {
         said.contains("% ") || said.contains("%,")
     });
     assert!(told);
+}
+
+/// A broker's index files in the order of their names.
+fn index_files(store: &Path) -> Vec<PathBuf> {
+    let folder = fs::read_dir(store.join("index")).unwrap();
+    let mut paths: Vec<PathBuf> = folder.map(|entry| entry.unwrap().path()).collect();
+    paths.sort();
+    paths
+}
+
+/// So many records of one unique key each, a few seconds apart.
+fn keyed(broker: &mut Broker, count: u64) -> Vec<Put> {
+    let puts = (0..count).map(|number| {
+        broker.put(Message {
+            uniq_key: &format!("U{number:04}"),
+            store_time: MORNING + 3700 * number,
+            ..Message::default()
+        })
+    });
+    puts.collect()
+}
+
+#[test]
+fn a_clock_that_was_put_back_is_no_fault() {
+    let folder = Folder::new("check-clock");
+    let mut broker = Broker::new(&folder.join("store")).slots(10).items(40);
+    keyed(&mut broker, 100);
+    let store = broker.finish();
+    let paths = index_files(&store);
+    assert_eq!(paths.len(), 3);
+    fs::rename(&paths[2], store.join("index/20260301000000000")).unwrap();
+    let check = tool("check", &store, &[]);
+    check.is(0, SOUND);
+    check.shows("22 items as the log gives them");
+}
+
+#[test]
+fn items_of_the_last_record_may_stand_twice() {
+    let folder = Folder::new("check-twice");
+    let mut broker = Broker::new(&folder.join("store"));
+    let last = *keyed(&mut broker, 10).last().unwrap();
+    let store = broker.finish();
+    let again = |change: u8| {
+        edit(&index_file(&store), |bytes| {
+            let used = u32::from_be_bytes(bytes[36..40].try_into().unwrap());
+            let place = |item: u32| 40 + 4 * 500 + 20 * item as usize;
+            let mut item = bytes[place(used - 1)..place(used)].to_vec();
+            item[3] ^= change;
+            let hash = u32::from_be_bytes(item[..4].try_into().unwrap());
+            let slot = 40 + 4 * (hash as usize % 500);
+            item[16..].copy_from_slice(&bytes[slot..slot + 4]);
+            bytes[place(used)..place(used + 1)].copy_from_slice(&item);
+            bytes[slot..slot + 4].copy_from_slice(&used.to_be_bytes());
+            bytes[36..40].copy_from_slice(&(used + 1).to_be_bytes());
+        });
+    };
+    again(0);
+    let check = tool("check", &store, &[]);
+    check.is(0, SOUND).shows("1 item once more");
+    // Another key is none of this record.
+    again(1);
+    let stray = format!(
+        "item 12 names position {}, where no record gives it",
+        last.position
+    );
+    let check = tool("check", &store, &[]);
+    check.is(1, &stray);
+    assert!(!check.out.contains("--force"), "{}", check.out);
+}
+
+/// The first item of a file that follows another one has its seconds from there.
+#[test]
+fn an_index_whose_forerunner_was_removed_is_no_fault() {
+    let folder = Folder::new("check-forerunner");
+    let mut broker = Broker::new(&folder.join("try")).segment_size(4096);
+    let puts = keyed(&mut broker, 60);
+    let before = puts.iter().filter(|put| put.position < 4096).count() as u32;
+    let mut broker = Broker::new(&folder.join("store"))
+        .segment_size(4096)
+        .slots(50)
+        .items(before + 1);
+    keyed(&mut broker, 60);
+    let store = broker.finish();
+    remove_segments(&store, 1);
+    let paths = index_files(&store);
+    assert_eq!(paths.len(), 2);
+    fs::remove_file(&paths[0]).unwrap();
+    let bytes = fs::read(&paths[1]).unwrap();
+    let seconds = 40 + 4 * 50 + 20 + 12;
+    assert_eq!(bytes[seconds..seconds + 4], 3u32.to_be_bytes());
+    tool("check", &store, &[])
+        .is(0, "; as the log gives it")
+        .shows(SOUND);
+    // Those of the others are compared.
+    edit(&paths[1], |bytes| bytes[seconds + 23] ^= 1);
+    tool("check", &store, &[]).is(1, "the seconds of item 2 is 2, by the log 3");
+}
+
+#[test]
+fn what_is_older_than_the_log_is_not_left_out_for_a_fault() {
+    let folder = Folder::new("check-older");
+    let mut broker = Broker::new(&folder.join("store")).segment_size(4096);
+    let puts = keyed(&mut broker, 100);
+    let store = broker.finish();
+    remove_segments(&store, 1);
+    tool("check", &store, &[])
+        .is(0, SOUND)
+        .shows("older than the log, which starts at 4096");
+    let number = puts.iter().position(|put| put.position > 4096).unwrap();
+    edit(&queue_file(&store, "T", 0), |bytes| {
+        bytes[20 * number + 7] ^= 1
+    });
+    let before = files(&store);
+    let check = tool("check", &store, &[]);
+    check.is(1, &format!("T/0: entry {number} differs from the log's"));
+    assert!(!check.out.contains("--force"), "{}", check.out);
+    let (_, call) = check.out.split_once("elsewhere: ").unwrap();
+    shell(call.trim()).is(0, "stop      0");
+    assert_eq!(files(&store), before);
+    let elsewhere = folder.join("store.rebuilt");
+    tool("check", &elsewhere, &[]).is(0, SOUND);
+    // It is named only once.
+    assert!(!tool("check", &store, &[]).out.contains("--into"));
+}
+
+#[test]
+fn queues_that_are_not_listed_are_not_judged() {
+    let folder = Folder::new("check-listed");
+    let store = built(&folder, "store");
+    let list = folder.join("list");
+    fs::write(&list, "SORTER_TRIM 0\n").unwrap();
+    let options = ["--queues", list.to_str().unwrap()];
+    edit(&queue_file(&store, "SORTER_DIVERT", 0), |bytes| {
+        bytes[7] ^= 1
+    });
+    let check = tool("check", &store, &options);
+    check.is(
+        0,
+        "418 records of queues that are not listed were not compared",
+    );
+    edit(&queue_file(&store, "SORTER_TRIM", 0), |bytes| bytes[7] ^= 1);
+    let check = tool("check", &store, &options);
+    check.is(1, "SORTER_TRIM/0: entry 0 differs");
+    assert!(!check.out.contains("swistopal rebuild"), "{}", check.out);
+    let (_, call) = check.out.split_once("compare all queues: ").unwrap();
+    let check = shell(call.trim());
+    check
+        .is(1, "SORTER_DIVERT/0: entry 0 differs")
+        .shows("--force");
+}
+
+#[test]
+fn damage_over_segments_names_each() {
+    let folder = Folder::new("check-over");
+    let mut broker = Broker::new(&folder.join("store")).segment_size(4096);
+    let puts = keyed(&mut broker, 200);
+    let store = broker.finish();
+    edit(&segment(&store, 4096), |bytes| bytes[500..].fill(0xff));
+    edit(&segment(&store, 8192), |bytes| bytes.fill(0xff));
+    edit(&segment(&store, 12_288), |bytes| bytes[..700].fill(0xff));
+    let check = tool("check", &store, &[]);
+    for first in [4096, 8192, 12_288] {
+        check.is(1, &format!("get another copy of commitlog/{first:020}"));
+    }
+    assert!(!check.out.contains("commitlog/00000000000000016384"));
+    // All others are read and compared.
+    let lost = puts.iter().filter(|put| {
+        let end = put.position + u64::from(put.length);
+        end > 4596 && put.position < 12_988
+    });
+    let lost = lost.count() as u64;
+    let entries = 200 - lost;
+    check.shows(&format!("{entries} entries, "));
+    check.shows(&format!(
+        "{lost} entries of records where the log was not read"
+    ));
+    check.shows(&format!(
+        "{lost} items of records where the log was not read"
+    ));
+    check.shows(&format!("; {entries} items as the log gives them"));
+    assert!(!check.out.contains("! queues"), "{}", check.out);
+    assert!(!check.out.contains("! index"), "{}", check.out);
+}
+
+/// What stands behind damage is judged too.
+#[test]
+fn a_wrong_entry_behind_damage_is_told() {
+    let folder = Folder::new("check-behind");
+    let mut broker = Broker::new(&folder.join("store")).segment_size(4096);
+    let puts = keyed(&mut broker, 200);
+    let store = broker.finish();
+    edit(&segment(&store, 0), |bytes| {
+        bytes[puts[3].position as usize + 4] ^= 1
+    });
+    let sound = tool("check", &store, &[]);
+    sound.is(1, "199 entries, 196 of them read behind damage");
+    assert!(!sound.out.contains("! queues"), "{}", sound.out);
+    edit(&queue_file(&store, "T", 0), |bytes| {
+        bytes[20 * 150 + 11] ^= 1
+    });
+    edit(&index_file(&store), |bytes| {
+        bytes[40 + 4 * 500 + 20 * 151 + 3] ^= 1
+    });
+    let check = tool("check", &store, &[]);
+    check.is(1, "T/0: entry 150 differs from the log's");
+    check.shows("item 151 differs from the log's");
+    assert!(!check.out.contains("swistopal rebuild"), "{}", check.out);
 }

@@ -108,8 +108,12 @@ fn killed_at_random_moments() {
     let (mut kills, mut rebuilds, mut resumed) = (0, 0, 0);
     let (mut during_placing, mut half_kept) = (0, 0);
     while kills < KILLS || rebuilds == 0 {
-        let batch = (1 + chance.below(60)).to_string();
-        let mut child = begin(&store, &batch);
+        // In one batch or in many.
+        let batch = match chance.below(3) {
+            0 => 500,
+            _ => 1 + chance.below(60),
+        };
+        let mut child = begin(&store, &batch.to_string());
         if kills < KILLS {
             sleep(Duration::from_micros(chance.below(longest)));
         } else {
@@ -181,8 +185,8 @@ fn killed_between_two_writes() {
     .enumerate()
     {
         for replacing in [false, true] {
-            for late in [0, 500, 3000] {
-                let store = folder.join(&format!("{number}-{replacing}-{late}"));
+            for (late, batch) in [(0, "200"), (500, "500"), (3000, "200"), (0, "500")] {
+                let store = folder.join(&format!("{number}-{replacing}-{late}-{batch}"));
                 // Results that are replaced stand where the new ones come: those moments are seen by what is kept.
                 copy(&other, &store);
                 if !replacing {
@@ -193,7 +197,7 @@ fn killed_between_two_writes() {
                     Some(result) => !kept(&store, result).is_empty(),
                     None => store.join(landmark).exists(),
                 };
-                let mut child = begin(&store, "200");
+                let mut child = begin(&store, batch);
                 while !there() && child.try_wait().unwrap().is_none() {}
                 sleep(Duration::from_micros(chance.below(late + 1)));
                 child.kill().unwrap();

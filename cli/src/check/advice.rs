@@ -12,6 +12,7 @@ use crate::log::{Cause, Log, Skipped};
 use crate::shell;
 use crate::text::shown_path;
 use crate::work;
+use std::ffi::OsStr;
 use std::os::unix::ffi::OsStrExt;
 use swistopal::{Answer, LogPosition};
 
@@ -28,6 +29,10 @@ pub struct Site<'a> {
 pub struct Standing {
     /// Entries or items that no record of the log gives.
     pub more_than_the_log: bool,
+    /// Among them some that the log should have.
+    pub newer_than_the_log: bool,
+    /// Records of queues that were not listed.
+    pub unlisted: bool,
     /// Something that cannot be read.
     pub unreadable: bool,
     /// A topic that cannot be a folder's name.
@@ -43,9 +48,11 @@ pub struct Standing {
 impl Standing {
     pub fn of(compared: &Compared, results: &Results) -> Standing {
         let mut standing = Standing::default();
+        let mut more = false;
         let mut take = |rest: &Rest, missing: Option<u64>, wrong: bool| {
             let more = rest.older + rest.not_read + rest.behind + rest.strays.count;
             standing.more_than_the_log |= more > 0;
+            standing.newer_than_the_log |= rest.behind + rest.strays.count > 0;
             standing.wrong |= wrong || rest.behind + rest.strays.count > 0;
             let from = standing.missing_from.into_iter().chain(missing);
             standing.missing_from = from.min();
@@ -60,6 +67,8 @@ impl Standing {
             for merged in &merge.files {
                 take(&merged.rest, None, merged.differing.count > 0);
             }
+            let mut repeated = merge.files.iter().map(|merged| merged.repeated);
+            more |= repeated.any(|count| count > 0);
             let differ = matches!(rest, Others::Differ(_));
             take(&Rest::default(), merge.missing.first, differ);
         }
@@ -68,7 +77,8 @@ impl Standing {
         }
         standing.impossible = sides.list.iter().any(|side| side.impossible.is_some());
         standing.wrong |= !results.refused.is_empty();
-        standing.more_than_the_log |= sides.unlisted > 0;
+        standing.more_than_the_log |= more;
+        standing.unlisted = sides.unlisted > 0;
         let files = sides.list.iter().flat_map(|side| &side.refused);
         let mut files = files.chain(&results.refused);
         standing.unreadable =
@@ -113,6 +123,7 @@ impl<'a> Site<'a> {
                 let (name, path) = self.segment(skipped.from);
                 report.advise(format!("get another copy of {name}; {until}"));
                 files.push(path);
+                self.further_copies(skipped, report);
             }
         }
         // A fault begins with its file.
@@ -128,6 +139,17 @@ impl<'a> Site<'a> {
             report.advise(format!(
                 "get another copy of {name}, which has damaged bodies"
             ));
+        }
+    }
+
+    /// Damage may go over several segments.
+    fn further_copies(&self, skipped: &Skipped, report: &mut Report) {
+        let size = self.log.geometry.segment_size;
+        let mut first = (skipped.from.0 / size + 1) * size;
+        while first < skipped.to.0 && self.log.has(LogPosition(first)) {
+            let (name, _) = self.segment(LogPosition(first));
+            report.advise(format!("get another copy of {name}"));
+            first += size;
         }
     }
 
@@ -198,15 +220,15 @@ impl<'a> Site<'a> {
             self.results_of_a_strange_log(report);
         } else if let Some(position) = standing.out_of_step {
             self.results_out_of_step(position, standing, report);
+        } else if standing.unlisted {
+            let call = self.call("check", &["--slots", "--items", "--segment-size", "--end"]);
+            report.advise_command("compare all queues", call);
         } else if self.in_the_way && report.limited() {
             report.advise("keep queues and index as they are: this tool cannot make all of them, as told above");
         } else if report.limited() {
             self.beyond_a_limit(report);
         } else if self.in_the_way && standing.more_than_the_log {
-            report.advise(
-                "keep queues and index as they are: they name records that this log does not have; \
-                 get a copy of the log that has them",
-            );
+            self.results_with_more(standing, report);
         } else if !standing.unreadable {
             self.rebuild(report);
         }
@@ -250,6 +272,30 @@ impl<'a> Site<'a> {
         }
     }
 
+    /// A rebuild would leave out what is there.
+    fn results_with_more(&self, standing: &Standing, report: &mut Report) {
+        if standing.newer_than_the_log {
+            report.advise(
+                "keep queues and index as they are: they name records that this log does not have; \
+                 get a copy of the log that has them",
+            );
+            return;
+        }
+        report.advise("keep queues and index as they are: the log gives less than they have");
+        let place = self.args.place();
+        let name = place
+            .file_name()
+            .map(|name| [name.as_bytes(), b".rebuilt"].concat());
+        let into = name.map(|name| place.with_file_name(OsStr::from_bytes(&name)));
+        let free = into.filter(|into| into.symlink_metadata().is_err());
+        if let Some(into) = free.filter(|_| self.args.value("--end").is_none()) {
+            let call = self.call("rebuild", &["--queues", "--segment-size"]);
+            let into = shell::quoted(into.as_os_str().as_bytes());
+            let what = "make those that the log gives elsewhere";
+            report.advise_command(what, format!("{call} --into {into}"));
+        }
+    }
+
     /// Nothing is there, and only a part can be made.
     fn beyond_a_limit(&self, report: &mut Report) {
         let delayed = self.survey.before.delayed + self.survey.behind.delayed > 0;
@@ -275,7 +321,8 @@ impl<'a> Site<'a> {
 
     /// Whether a rebuild that has begun may put its results in place.
     fn may_replace(&self, standing: &Standing, report: &Report) -> bool {
-        let against = self.damaged() || report.limited() || standing.more_than_the_log;
+        let more = standing.more_than_the_log || standing.unlisted;
+        let against = self.damaged() || report.limited() || more;
         !self.in_the_way || !(against || standing.unreadable || standing.out_of_step.is_some())
     }
 

@@ -3,6 +3,7 @@
 use super::exact::{self, Differs};
 use super::maker::Maker;
 use super::merge::Merge;
+use super::near::Near;
 use super::reach::Reach;
 use super::results::Results;
 use super::sides::{Given, Sides};
@@ -98,6 +99,7 @@ impl<'a> Comparer<'a> {
             sides: self.sides(),
             merge: Merge::new(self.log, self.reach, &self.results.indexes),
             maker: Maker::new(),
+            near: Near::new(self.log),
             meter: Meter::new("comparing", self.log.first().0, self.log.files_end().0),
             steps: 0,
             passed: 0,
@@ -125,7 +127,8 @@ impl<'a> Comparer<'a> {
         let made = made.filter(|made| made.stop == Answer::Done);
         match (made, &merge.files[..]) {
             (Some(made), [merged]) if merged.same == merge.given && merged.is_all_the_same() => {
-                match exact::difference(made, merged.index) {
+                let cut = self.log.first() > LogPosition(0);
+                match exact::difference(made, merged.index, cut) {
                     Some(differs) => Others::Differ(differs),
                     None => Others::Same,
                 }
@@ -140,6 +143,7 @@ struct Pass<'a> {
     sides: Sides<'a>,
     merge: Merge<'a>,
     maker: Maker,
+    near: Near<'a>,
     meter: Meter,
     steps: u64,
     /// Parts of the log that were passed over.
@@ -161,6 +165,7 @@ impl Pass<'_> {
             } => (position, length, message, behind),
             Met::Entry { .. } => return Ok(()),
         };
+        self.near.look_ahead(position);
         self.steps += 1;
         if self.steps.is_multiple_of(1024) {
             self.meter.show(position.0, self.steps);

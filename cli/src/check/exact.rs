@@ -40,12 +40,17 @@ pub fn index_is_same(made: &Made, indexes: &[Index]) -> bool {
     }
 }
 
-/// The first difference that is none of an item's hash or position.
-pub fn difference(made: &Made, index: &Index) -> Option<Differs> {
+/// The first difference that is none of an item's hash or position. Where older segments were removed, an index file may have
+/// been before this one: the seconds of its first item then count from there.
+pub fn difference(made: &Made, index: &Index, cut: bool) -> Option<Differs> {
     let (made, found) = (Bytes(&made.index), Bytes(&index.bytes));
     let slots = index.geometry.slots;
     let items = 1..found.used().min(made.used());
-    let item = |bytes: &Bytes, item| Some((bytes.seconds(slots, item)?, bytes.link(slots, item)?));
+    let item = |bytes: &Bytes, item| {
+        let seconds = bytes.seconds(slots, item)?;
+        let seconds = if cut && item == 1 { 0 } else { seconds };
+        Some((seconds, bytes.link(slots, item)?))
+    };
     let mut items = items.map(|number| (number, item(&found, number), item(&made, number)));
     if let Some((number, found, made)) = items.find(|(_, found, made)| found != made) {
         let (found, made) = (found?, made?);

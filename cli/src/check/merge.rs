@@ -13,6 +13,8 @@ pub struct Merge<'a> {
     pub files: Vec<Merged<'a>>,
     /// The file and the item that are next.
     at: (usize, u64),
+    /// The record that was taken last, and its hashes.
+    last: (u64, Vec<u32>),
     /// Items of the log.
     pub given: u64,
     /// Records, by their positions, whose items are not there.
@@ -25,6 +27,8 @@ pub struct Merged<'a> {
     pub differing: Tally<Difference>,
     /// Items whose key is not ASCII and has another hash by Java's rule.
     pub other_hash: u64,
+    /// Items that a record has once more: a broker that did not end in order adds those of its last record again.
+    pub repeated: u64,
     pub rest: Rest,
 }
 
@@ -71,6 +75,7 @@ impl<'a> Merge<'a> {
             same: 0,
             differing: Tally::default(),
             other_hash: 0,
+            repeated: 0,
             rest: Rest::default(),
         });
         Merge {
@@ -78,6 +83,7 @@ impl<'a> Merge<'a> {
             reach,
             files: files.collect(),
             at: (0, 1),
+            last: (0, Vec::new()),
             given: 0,
             missing: Tally::default(),
         }
@@ -120,6 +126,9 @@ impl<'a> Merge<'a> {
             };
             self.take_item(made, other_hash);
         }
+        self.last.0 = position.0;
+        self.last.1.clear();
+        self.last.1.extend(hashes);
     }
 
     fn take_item(&mut self, made: Item, other_hash: bool) {
@@ -165,8 +174,12 @@ impl<'a> Merge<'a> {
 
     fn pass_over(&mut self, found: Item) {
         let reach = self.reach;
+        let repeated = found.position == self.last.0 && self.last.1.contains(&found.hash);
         let (merged, number) = self.pass();
-        merged.rest.add(reach, number, found.position);
+        match repeated {
+            true => merged.repeated += 1,
+            false => merged.rest.add(reach, number, found.position),
+        }
     }
 
     /// Looks at the items that no record gave.

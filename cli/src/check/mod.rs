@@ -8,6 +8,7 @@ mod exact;
 mod made;
 mod maker;
 mod merge;
+mod near;
 mod reach;
 mod report;
 mod results;

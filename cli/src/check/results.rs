@@ -3,7 +3,7 @@
 use crate::args::Args;
 use crate::failure::Failure;
 use crate::files::{Refused, Unfit};
-use crate::index::{self, item_place, Index, MOST_ITEMS, MOST_SLOTS};
+use crate::index::{self, item_place, Bytes, Index, MOST_ITEMS, MOST_SLOTS};
 use crate::queues::{self, Queue};
 use swistopal::{query, Answer, IndexGeometry, LogPosition, Query};
 
@@ -49,6 +49,9 @@ impl Results {
             }
             Err(refused) => results.refused.push(refused),
         }
+        // Their names are times, and a clock may have been put back.
+        let first = |index: &Index| Bytes(&index.bytes).first_position();
+        results.indexes.sort_by_key(first);
         results.find_cut(args.number_within("--items", 2, MOST_ITEMS)?);
         match queues::on_disk(args.place()) {
             Ok(on_disk) => results.on_disk = on_disk,

@@ -2,10 +2,10 @@
 //! makes queues and index from it on the way, as long as no limit is met.
 
 use super::made::Made;
+use super::near::Near;
 use crate::crc;
 use crate::failure::Failure;
 use crate::log::{End, Log, Met, Skipped};
-use crate::map::bring_near;
 use crate::meter::Meter;
 use crate::plan::{makes_entry, Row};
 use crate::queues::Queue;
@@ -17,8 +17,6 @@ use swistopal::{Answer, Entry, LogPosition, Message, QueueOffset};
 pub const DELAYED: &[u8] = b"SCHEDULE_TOPIC_XXXX";
 /// Bytes that are walked before the archive makes queues and index from them: what was just read is read fast again.
 const BLOCK: u64 = 1 << 18;
-/// Bytes that are brought near before they are read.
-const AHEAD: u64 = 4096;
 
 pub struct Survey {
     pub before: Counts,
@@ -121,7 +119,7 @@ pub fn walk(log: &Log, made: Option<Made>, judge_bodies: bool) -> Result<Survey,
         meter: Meter::new("reading", log.first().0, log.files_end().0),
         steps: 0,
         block: log.first().0 + BLOCK,
-        near: log.first().0,
+        near: Near::new(log),
     };
     let end = log.walk_on(log.first(), |met| {
         surveyor.meet(met);
@@ -142,8 +140,7 @@ struct Surveyor<'a> {
     steps: u64,
     /// Where the next block begins.
     block: u64,
-    /// Up to where bytes were brought near.
-    near: u64,
+    near: Near<'a>,
 }
 
 impl Surveyor<'_> {
@@ -154,7 +151,7 @@ impl Surveyor<'_> {
                 entry,
                 behind,
             } => {
-                self.look_ahead(position);
+                self.near.look_ahead(position);
                 if position.0 >= self.block {
                     self.end_block(position);
                 }
@@ -181,18 +178,6 @@ impl Surveyor<'_> {
                 self.survey.skipped.push(skipped);
             }
         }
-    }
-
-    /// The next record's place is known only when this one has been read, so the processor alone would wait for each.
-    fn look_ahead(&mut self, position: LogPosition) {
-        let (first, bytes) = (self.log.first().0, self.log.bytes());
-        let from = self.near.max(position.0);
-        let to = position.0 + AHEAD;
-        let place = |at: u64| usize::try_from(at - first).ok();
-        if let (Some(from), Some(to)) = (place(from), place(to)) {
-            bring_near(bytes.get(from..to).unwrap_or_default());
-        }
-        self.near = to;
     }
 
     fn end_block(&mut self, position: LogPosition) {

@@ -59,7 +59,7 @@ fn stop(skipped: &Skipped, survey: &Survey) -> String {
     let why = match skipped.why {
         Cause::Answer(answer) => format!("with {}: {answer}", answer.number()),
         Cause::Zeros => String::from("with 10: zeros stand there"),
-        Cause::NoFile => String::from("no file that can be read has what follows"),
+        Cause::NoFile => String::from("as no file that can be read has what follows"),
         Cause::LongHosts(_) => String::from("at hosts of 20 bytes"),
     };
     let (from, to) = (skipped.from.0, skipped.to);

@@ -330,6 +330,13 @@ fn merged_file(merged: &Merged, others: &Others, reach: &Reach, report: &mut Rep
         let finding = sound("index", "older", sentence).text("name", name);
         report.add(finding.number("items", rest.older));
     }
+    if merged.repeated > 0 {
+        let items = counted(merged.repeated, "item", "items");
+        let sentence =
+            format!("{name}: {items} once more, as a broker leaves them that did not end in order");
+        let finding = sound("index", "repeated", sentence).text("name", name);
+        report.add(finding.number("items", merged.repeated));
+    }
     if rest.not_read > 0 {
         let items = counted(rest.not_read, "item", "items");
         let sentence =
