@@ -398,6 +398,11 @@ fn what_is_not_seen_is_shown_as_escapes() {
         unseen(&run);
     }
     // The words of a command can be pasted into a shell.
+    let demo = folder.join("two words");
+    tool("demo", &demo, &[]).is(
+        0,
+        &format!("next: swistopal rebuild '{}'\n", demo.display()),
+    );
     fs::remove_dir_all(store.join("index")).unwrap();
     let run = query(&store, &["--key", "k"]);
     let quoted = store.display().to_string().replace('\'', "'\\''");
