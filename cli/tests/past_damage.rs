@@ -307,6 +307,36 @@ fn missing_short_and_long_segments_hide_no_other() {
     }
 }
 
+#[test]
+fn a_store_that_cannot_be_read_is_not_missing() {
+    let folder = Folder::new("unreadable");
+    let around = |path: &Path| std::os::unix::fs::symlink(path, path).unwrap();
+    let store = folder.join("store");
+    around(&store);
+    for command in ["list", "check", "rebuild"] {
+        let run = tool(command, &store, &[]);
+        run.is(1, "cannot read ")
+            .is(1, "Too many levels of symbolic links");
+    }
+    fs::remove_file(&store).unwrap();
+    fs::create_dir(&store).unwrap();
+    around(&store.join("commitlog"));
+    tool("list", &store, &[]).is(1, "store/commitlog: Too many levels of symbolic links");
+    fs::remove_file(store.join("commitlog")).unwrap();
+    fs::create_dir(store.join("commitlog")).unwrap();
+    around(&segment(&store, 0));
+    tool("list", &store, &["--resync"])
+        .is(1, "no segment can be read: ")
+        .is(
+            1,
+            "00000000000000000000: it is there, but cannot be read: Too many levels",
+        );
+    let pipe = folder.join("pipe");
+    let made = std::process::Command::new("mkfifo").arg(&pipe).status();
+    assert!(made.unwrap().success());
+    tool("list", &pipe, &[]).is(2, "pipe: it is a pipe, no folder");
+}
+
 /// The positions that a query or a queue shows, and which of them are marked.
 fn found(run: &Run) -> (Vec<u64>, Vec<u64>) {
     let json = run.json();

@@ -127,8 +127,9 @@ impl<'a> Search<'a> {
                 Ok(queried) => queried,
                 Err(refusal) => {
                     let number = refusal.number();
-                    self.faults
-                        .push(format!("index {name}: answer {number}: {refusal}"));
+                    self.faults.push(format!(
+                        "index {name}: answer {number}: {refusal}; --scan looks through the log itself"
+                    ));
                     return Ok(0);
                 }
             };
@@ -144,7 +145,8 @@ impl<'a> Search<'a> {
             }
             if queried.stop == Answer::ChainBroken {
                 once.faults.push(format!(
-                    "index {name}: answer 16 after {}: {}; older records may be missing here",
+                    "index {name}: answer 16 after {}: {}; older records may be missing here, and --scan looks through the log \
+                     itself",
                     counted(queried.items_read, "item", "items"),
                     queried.stop
                 ));
