@@ -56,8 +56,9 @@ way of the results is never deleted. It refuses where a broker holds the store's
                        log is only read, and a link to it is put there, so that the folder is asked as a store is
   --force              put the results into the places of a consumequeue and index that are there, and keep those beside
                        them, with the time in their names, as consumequeue.2026-03-02T05-58-00Z; only you remove them
-  --shorten            put results in place that have fewer entries or items than are there, or that end where the log is
-                       damaged or a segment is missing; otherwise that is refused
+  --shorten            put results in place that have fewer entries or items than are there, or not the times of delivery
+                       of SCHEDULE_TOPIC_XXXX, or that end where the log is damaged or a segment is missing; otherwise
+                       that is refused
   --after-crash        go on though a file `abort` says that a broker did not end in order; none may be running anywhere
   --queues FILE        the queues, a line `TOPIC QUEUE` for each, 1 to 16; otherwise those of the log, in its order
   --budget N           at most N steps now; more to come is stop 9

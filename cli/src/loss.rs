@@ -1,5 +1,6 @@
-//! What of the results that are there a rebuild would not have: it asks before it leaves fewer.
+//! What of the results that are there a rebuild would not have: it asks before it leaves less.
 
+use crate::check::DELAYED;
 use crate::failure::{At, Failure};
 use crate::index::{self, Bytes};
 use crate::journal::State;
@@ -14,20 +15,20 @@ use std::path::Path;
 /// As many queues are told by name; the others are counted.
 const NAMED: usize = 10;
 
-/// Entries of queues and items of indexes that are there, where the rebuild has fewer, as sentences.
+/// Entries of queues and items of indexes, where the rebuild has fewer than are there or lacks what they carry, as sentences.
 pub fn of(store: &Path, plan: &Plan, state: &State, items: u64) -> Result<Vec<String>, Failure> {
     let mut losses = of_queues(store, plan, state)?;
     if losses.len() > NAMED {
         let others = counted((losses.len() - NAMED) as u64, "queue", "queues");
         losses.truncate(NAMED);
-        losses.push(format!("so do {others} more"));
+        losses.push(format!("{others} more: the same of each"));
     }
     let there = items_there(store)?;
     if there > items {
         losses.push(format!(
-            "index: {} there, {} in the rebuild",
-            counted(there, "item is", "items are"),
-            grouped(items)
+            "index: {} instead of {}",
+            counted(items, "item", "items"),
+            grouped(there)
         ));
     }
     Ok(losses)
@@ -52,12 +53,17 @@ fn of_queues(store: &Path, plan: &Plan, state: &State) -> Result<Vec<String>, Fa
         });
         if there.entries > made.entries || there.end > made.end {
             losses.push(format!(
-                "queue {}: {} there{}, {} in the rebuild{}",
+                "queue {}: {}{} instead of {}{}",
                 queue.shown(),
-                counted(there.entries, "entry is", "entries are"),
-                there.up_to(),
-                grouped(made.entries),
-                made.up_to()
+                counted(made.entries, "entry", "entries"),
+                made.up_to(),
+                grouped(there.entries),
+                there.up_to()
+            ));
+        } else if queue.topic == DELAYED && there.entries > 0 {
+            losses.push(format!(
+                "queue {}: the code of the tags instead of the time of delivery in each entry",
+                queue.shown()
             ));
         }
     }
@@ -85,7 +91,7 @@ impl Extent {
     fn up_to(&self) -> String {
         match self.end {
             0 => String::new(),
-            end => format!(", up to entry {}", end - 1),
+            end => format!(" up to number {}", end - 1),
         }
     }
 }

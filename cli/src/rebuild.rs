@@ -268,7 +268,7 @@ impl Made {
         self.done.stop == Answer::Done
     }
 
-    /// Fewer entries or items than are there are put in place only by whoever asks for that.
+    /// Less than is there is put in place only by whoever asks for that.
     fn ask(&self, args: &Args, end: &End) -> Result<(), Failure> {
         if self.short.is_empty() || args.flag("--shorten") {
             return Ok(());
@@ -277,8 +277,8 @@ impl Made {
             note(loss);
         }
         usage(format!(
-            "up to {} the log gives fewer than are there, so nothing was replaced; --shorten puts them in place all the same \
-             and keeps what is there beside them, with the time in its name",
+            "a rebuild up to {} would leave less than is there, so nothing was replaced; --shorten puts it in place all the \
+             same and keeps what is there beside it, with the time in its name",
             end.position.0
         ))
     }

@@ -129,17 +129,20 @@ fn fewer_than_are_there_need_to_be_asked_for() {
     let run = tool("rebuild", &many, &options);
     run.is(
         2,
-        "queue T/0: 2 entries are there, up to entry 1, 1 in the rebuild, up to entry 0",
+        "queue T/0: 1 entry up to number 0 instead of 2 up to number 1",
     );
-    run.is(2, "so do 30 queues more");
-    run.is(2, "index: 80 items are there, 16 in the rebuild");
-    run.is(2, "so nothing was replaced; --shorten puts them in place all the same and keeps what is there");
+    run.is(2, "30 queues more: the same of each");
+    run.is(2, "index: 16 items instead of 80");
+    run.is(
+        2,
+        "so nothing was replaced; --shorten puts it in place all the same and keeps what is there",
+    );
     assert_eq!(run.out, "");
     still_there(&many, &before);
     let run = tool("rebuild", &many, &[&options[..], &["--shorten"]].concat());
     assert_eq!(
         last_line(&run.is(0, "kept      ").out),
-        "short     index: 80 items are there, 16 in the rebuild"
+        "short     index: 16 items instead of 80"
     );
     let kept = kept(&many, "consumequeue");
     assert!(files(&kept[0]) == files_below(&before, "consumequeue"));
@@ -149,8 +152,8 @@ fn fewer_than_are_there_need_to_be_asked_for() {
     remove_segments(&cut, 2);
     let before = files(&cut);
     let run = tool("rebuild", &cut, &["--force"]);
-    run.is(2, "queue T/0: 400 entries are there, up to entry 399, ")
-        .is(2, "index: 400 items are there, ");
+    run.is(2, " instead of 400 up to number 399")
+        .is(2, " items instead of 400");
     still_there(&cut, &before);
 
     // As many are no question, and neither are more.
@@ -160,6 +163,33 @@ fn fewer_than_are_there_need_to_be_asked_for() {
         bytes[36..40].copy_from_slice(&5u32.to_be_bytes())
     });
     tool("rebuild", &whole, &["--force"]).is(0, "index     20260302060000000: 90 items");
+}
+
+/// In the delayed topic an entry's code is the time of delivery, which a rebuild does not make.
+#[test]
+fn times_of_delivery_are_not_replaced_without_being_asked() {
+    let folder = Folder::new("delayed");
+    let mut broker = Broker::new(&folder.join("store")).segment_size(8192);
+    for number in 0..20 {
+        broker.put(Message {
+            keys: &format!("P{number}"),
+            delay_level: 3,
+            ..Message::default()
+        });
+    }
+    let store = broker.finish();
+    let before = files(&store);
+    let run = tool("rebuild", &store, &["--force"]);
+    run.is(
+        2,
+        "queue SCHEDULE_TOPIC_XXXX/2: the code of the tags instead of the time of delivery in each entry",
+    );
+    assert!(files(&store) == before);
+    let run = tool("rebuild", &store, &["--force", "--shorten"]);
+    assert!(last_line(&run.is(0, "kept      ").out)
+        .starts_with("short     queue SCHEDULE_TOPIC_XXXX/2: "));
+    let kept = kept(&store, "consumequeue");
+    assert!(files(&kept[0]) == files_below(&before, "consumequeue"));
 }
 
 /// Of all files those below a folder, by their names there.
@@ -215,7 +245,7 @@ fn an_end_at_damage_needs_to_be_asked_for() {
             run.is(1, why);
             run.shows(&format!("stop      {stop}: "));
             assert!(last_line(&run.out).starts_with("short     "), "{}", run.out);
-            assert_eq!(run.out.contains("entries are there"), there, "{}", run.out);
+            assert_eq!(run.out.contains(" instead of "), there, "{}", run.out);
             assert_eq!(kept(&store, "index").len(), usize::from(there));
             let json = [&FORCE[..], &["--shorten", "--json"]].concat();
             let json = tool("rebuild", &store, &json).is(1, "").json();
@@ -474,4 +504,47 @@ fn a_full_file_system_in_memory_is_no_fault_of_the_medium() {
         "{}",
         run.err
     );
+}
+
+/// Steps that take long enough for a bar, on a terminal of so many columns.
+#[test]
+fn the_bar_fits_into_the_terminal() {
+    let folder = Folder::new("bar");
+    for columns in [60, 20] {
+        let store = folder.join(&columns.to_string());
+        made(&store, 0, 1 << 21, 15_000, |position, number| {
+            record(position, b"T", (0, number), 1000, b"UNIQ_KEY\x01k")
+        });
+        let script = format!(
+            "stty cols {columns}; '{TOOL}' rebuild '{}' --batch 3",
+            store.display()
+        );
+        let mut call = Command::new("script");
+        call.args(["-qec", &script, "/dev/null"]);
+        call.stdin(Stdio::null()).stdout(Stdio::piped());
+        let Ok(mut child) = call.spawn() else {
+            println!("no terminal can be had here: nothing was tested");
+            return;
+        };
+        let mut out = child.stdout.take().unwrap();
+        let (mut shown, mut some) = (Vec::new(), [0; 256]);
+        while shown.iter().filter(|byte| **byte == 0x1b).count() < 3 {
+            let length = std::io::Read::read(&mut out, &mut some).unwrap();
+            assert!(length > 0, "it ended: {}", String::from_utf8_lossy(&shown));
+            shown.extend(&some[..length]);
+        }
+        child.kill().unwrap();
+        child.wait().unwrap();
+        let shown = String::from_utf8_lossy(&shown).into_owned();
+        let lines: Vec<&str> = shown
+            .split('\r')
+            .filter(|line| line.contains('%'))
+            .collect();
+        assert!(lines.len() >= 2, "{shown:?}");
+        for line in &lines {
+            let text = line.split('\x1b').next().unwrap();
+            assert!(text.len() < columns, "{columns}: {text:?}");
+            assert_eq!(text.starts_with('['), columns == 60, "{text:?}");
+        }
+    }
 }

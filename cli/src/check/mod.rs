@@ -30,6 +30,7 @@ use made::Made;
 use reach::Reach;
 use report::{fault, sound, Report};
 use results::Results;
+pub use survey::DELAYED;
 use swistopal::{Answer, IndexGeometry, QueueEntries, QueueOffset};
 
 pub fn run(args: &Args) -> Result<Outcome, Failure> {
