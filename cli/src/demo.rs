@@ -3,10 +3,12 @@
 use crate::args::Args;
 use crate::crc;
 use crate::failure::{fault, usage, At, Failure, Outcome};
+use crate::shell;
 use crate::text::{counted, grouped, shown_path};
 use crate::{note, out};
 use std::fs;
 use std::io::Write;
+use std::os::unix::ffi::OsStrExt;
 use swistopal::{append, Appended, LogGeometry, LogPosition, Message, QueueOffset};
 
 const SEGMENT: usize = 65_536;
@@ -53,9 +55,10 @@ pub fn run(args: &Args) -> Result<Outcome, Failure> {
         counted(sorter.queues.len() as u64, "queue", "queues"),
     )?;
     out.flush()?;
-    note(&format!("next: swistopal rebuild {place}"));
+    let word = shell::place(store.as_os_str().as_bytes());
+    note(&format!("next: swistopal rebuild {word}"));
     note(&format!(
-        "then: swistopal query {place} --topic {DIVERT} --key P000017"
+        "then: swistopal query {word} --topic {DIVERT} --key P000017"
     ));
     Ok(Outcome::Sound)
 }

@@ -27,11 +27,12 @@ pub fn run(args: &Args) -> Result<Outcome, Failure> {
     let from = start(args, &log, resync)?;
     let mut listing = Listing::start(args)?;
     let (end, how) = listing.read(&log, from, resync, limit, &mut wanted)?;
-    let place = match how {
-        How::Stopped => format!("the log up to {}", end.position.0),
-        _ => String::from("the log"),
-    };
     let mut hints = seconds(args, &["--from-time", "--to-time"]);
+    let (whole, until) = (from == log.first(), end.position.0);
+    let place = match (whole, how) {
+        (true, How::Whole) if args.value("--end").is_none() => String::from("the log"),
+        _ => format!("the log from {} to {until}", from.0),
+    };
     hints.extend(wanted.hints(&place));
     listing.end(&log, &end, how == How::Cut, &hints)?;
     match how {

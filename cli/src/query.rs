@@ -12,11 +12,11 @@ use crate::queues;
 use crate::record::{self, With};
 use crate::shell;
 use crate::text::{counted, shown, shown_path, strings, Object};
-use crate::wanted::{self, times};
+use crate::wanted::{self, times, Seen};
 use search::{Asked, Search};
 use std::collections::BTreeSet;
 use std::os::unix::ffi::OsStrExt;
-use swistopal::Query;
+use swistopal::{Entry, Query};
 
 const DEFAULT_LIMIT: u64 = 32;
 
@@ -28,6 +28,7 @@ pub fn run(args: &Args) -> Result<Outcome, Failure> {
     let mut hints = wanted::seconds(args, &["--from", "--to"]);
     if args.flag("--scan") {
         search.scan(log.first())?;
+        hints.extend(search.hints_on_scan());
     } else {
         let Opened { indexes, faults } = index::open_all(args)?;
         if indexes.is_empty() && faults.is_empty() {
@@ -121,15 +122,21 @@ fn by_index(args: &Args, search: &mut Search, indexes: &[Index]) -> Result<(), F
 /// The topics of the store: those of its queues, and those of its log, which is read for them.
 fn topics(args: &Args, search: &mut Search) -> Result<BTreeSet<Vec<u8>>, Failure> {
     let on_disk = queues::on_disk(args.place())?.into_iter();
-    let mut topics: BTreeSet<Vec<u8>> = on_disk.map(|queue| queue.topic).collect();
+    let mut seen = Seen::default();
+    seen.topics.extend(on_disk.map(|queue| queue.topic));
     let log = search.log;
     log.walk_on(log.first(), |met| {
         match met {
-            Met::Entry { entry, .. } => wanted::add_topic(&mut topics, &entry),
+            Met::Entry {
+                entry: Entry::Record { message, .. },
+                ..
+            } => seen.add(&message),
+            Met::Entry { .. } => {}
             Met::Skipped(skipped) => search.passed_over(&skipped),
         }
         Ok(true)
     })?;
+    let mut topics = seen.topics;
     // The archive asks for no other ones.
     topics.retain(|topic| (1..=127).contains(&topic.len()));
     Ok(topics)
@@ -154,7 +161,12 @@ fn hints_on_index(args: &Args, search: &Search, indexes: &[Index]) -> Result<Vec
     if let Some(topic) = asked.topic {
         let on_disk = queues::on_disk(args.place())?.into_iter();
         let topics: BTreeSet<Vec<u8>> = on_disk.map(|queue| queue.topic).collect();
-        if !topics.contains(topic) && !topics.is_empty() {
+        if topics.is_empty() {
+            hints.push(format!(
+                "there are no queues to tell whether the store has topic {}; --scan looks through the log itself",
+                shown(topic)
+            ));
+        } else if !topics.contains(topic) {
             hints.push(wanted::no_topic("consumequeue", topic, &topics));
         }
     }

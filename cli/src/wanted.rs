@@ -23,8 +23,8 @@ pub struct Wanted<'a> {
 
 /// What there is, for a hint where nothing was found.
 #[derive(Default)]
-struct Seen {
-    topics: BTreeSet<Vec<u8>>,
+pub struct Seen {
+    pub topics: BTreeSet<Vec<u8>>,
     times: Option<(u64, u64)>,
 }
 
@@ -55,15 +55,6 @@ pub fn seconds(args: &Args, options: &[&str]) -> Vec<String> {
     hints
 }
 
-/// Takes the topic of what was read.
-pub fn add_topic(topics: &mut BTreeSet<Vec<u8>>, entry: &Entry) {
-    if let Entry::Record { message, .. } = entry {
-        if !topics.contains(message.topic) {
-            topics.insert(message.topic.to_vec());
-        }
-    }
-}
-
 impl<'a> Wanted<'a> {
     pub fn of(args: &'a Args, from: &str, to: &str) -> Result<Wanted<'a>, Failure> {
         let topic = match args.value("--topic") {
@@ -84,10 +75,7 @@ impl<'a> Wanted<'a> {
     pub fn takes(&mut self, entry: &Entry) -> bool {
         let takes = match entry {
             _ if !self.filters => true,
-            Entry::Record { message, .. } => {
-                add_topic(&mut self.seen.topics, entry);
-                self.takes_record(message)
-            }
+            Entry::Record { message, .. } => self.takes_record(message),
             Entry::Blank { .. } => false,
         };
         self.taken += u64::from(takes);
@@ -95,7 +83,7 @@ impl<'a> Wanted<'a> {
     }
 
     fn takes_record(&mut self, message: &Message) -> bool {
-        self.seen.add_time(message.store_time);
+        self.seen.add(message);
         let (first, last) = self.times;
         self.topic.is_none_or(|topic| topic == message.topic)
             && (first..=last).contains(&message.store_time)
@@ -103,23 +91,29 @@ impl<'a> Wanted<'a> {
 
     /// Where nothing was taken: what there is instead.
     pub fn hints(&self, place: &str) -> Vec<String> {
-        let mut hints = Vec::new();
-        if self.taken > 0 || !self.filters {
-            return hints;
+        match self.taken == 0 && self.filters {
+            true => self.seen.hints(place, self.topic, self.times),
+            false => Vec::new(),
         }
-        let topics = &self.seen.topics;
-        if let Some(topic) = self.topic.filter(|topic| !topics.contains(*topic)) {
-            hints.push(no_topic(place, topic, topics));
-        }
-        hints.extend(outside(place, self.times, self.seen.times));
-        hints
     }
 }
 
 impl Seen {
-    fn add_time(&mut self, time: u64) {
+    pub fn add(&mut self, message: &Message) {
+        if !self.topics.contains(message.topic) {
+            self.topics.insert(message.topic.to_vec());
+        }
+        let time = message.store_time;
         let (low, high) = self.times.unwrap_or((time, time));
         self.times = Some((low.min(time), high.max(time)));
+    }
+
+    /// That the topic or the times are not there.
+    pub fn hints(&self, place: &str, topic: Option<&[u8]>, times: (u64, u64)) -> Vec<String> {
+        let topic = topic.filter(|topic| !self.topics.contains(*topic));
+        let topic = topic.map(|topic| no_topic(place, topic, &self.topics));
+        let outside = outside(place, times, self.times);
+        topic.into_iter().chain(outside).collect()
     }
 }
 

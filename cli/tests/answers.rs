@@ -133,6 +133,21 @@ fn topics_and_times_that_are_not_there_are_told() {
         &["--topic", "SORTER_DIVERT", "--queue", "7"],
     )
     .is(1, "that topic has the queues 0, 1, 2, 3");
+    // Only of what was read.
+    tool(
+        "list",
+        &store,
+        &["--topic", "SORTER_TRIM", "--from", "83658"],
+    )
+    .is(0, "the log from 83658 to 83658 has no topic SORTER_TRIM");
+    tool("list", &store, &["--topic", "SORTER_TRIM", "--end", "383"])
+        .is(0, "the log from 0 to 383 has no topic SORTER_TRIM");
+    query(
+        &store,
+        &["--topic", "SORTER_DIVRT", "--key", "P000017", "--scan"],
+    )
+    .is(0, "the log has no topic SORTER_DIVRT")
+    .is(0, topics);
     let quiet = query(&store, &["--topic", "SORTER_DIVERT", "--key", "P999999"]);
     assert_eq!(
         quiet.is(0, "0 records").err.lines().count(),
@@ -154,6 +169,13 @@ fn topics_and_times_that_are_not_there_are_told() {
         let json = query(&store, &[&PARCEL[..], &range, &["--json"]].concat()).json();
         assert!(text(&json.get("hints").list()[0]).contains("outside the times"));
     }
+    let bare_log = folder.join("bare");
+    copy(&store, &bare_log);
+    fs::remove_dir_all(bare_log.join("consumequeue")).unwrap();
+    query(&bare_log, &["--topic", "SORTER_DIVRT", "--key", "P000017"]).is(
+        0,
+        "there are no queues to tell whether the store has topic SORTER_DIVRT",
+    );
     let meant = "if seconds are meant, 2026-03-02T05:58:00.000Z, it is --from 1772431080000";
     query(&store, &[&PARCEL[..], &["--from", "1772431080"]].concat())
         .is(0, "2 records")
@@ -376,6 +398,11 @@ fn what_is_not_seen_is_shown_as_escapes() {
         unseen(&run);
     }
     // The words of a command can be pasted into a shell.
+    let demo = folder.join("two words");
+    tool("demo", &demo, &[]).is(
+        0,
+        &format!("next: swistopal rebuild '{}'\n", demo.display()),
+    );
     fs::remove_dir_all(store.join("index")).unwrap();
     let run = query(&store, &["--key", "k"]);
     let quoted = store.display().to_string().replace('\'', "'\\''");

@@ -42,7 +42,11 @@ fn checks(store: &Path, options: &[&str], words: &[&str]) {
     }
     let json = tool("check", store, &[options, &["--json"]].concat());
     no_harm(&json);
-    assert_eq!(json.json().get("sound"), &Json::Truth(true));
+    let json = json.json();
+    assert_eq!(json.get("sound"), &Json::Truth(true));
+    // What was not compared is not called sound.
+    let limited = json.get("limited") == &Json::Truth(true);
+    assert_ne!(check.out.contains("the store is sound"), limited);
 }
 
 /// Each parcel is found by its key, and nothing is said against it.

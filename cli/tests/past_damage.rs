@@ -73,7 +73,8 @@ fn one_bad_record_hides_no_other() {
             .is(1, "the log stops at 6696 with 10")
             .is(1, "--resync goes on behind 6696")
             .shows("\nstop 10\n");
-        tool("list", &store, &["--topic", "NOPE"]).is(1, "the log up to 6696 has no topic NOPE");
+        tool("list", &store, &["--topic", "NOPE"])
+            .is(1, "the log from 0 to 6696 has no topic NOPE");
         let long = tool("list", &store, &["--resync", "--long"]);
         long.is(1, "").shows("(behind damage)");
         long.shows("\n6696 192 damage 10\n");
@@ -306,6 +307,36 @@ fn missing_short_and_long_segments_hide_no_other() {
     }
 }
 
+#[test]
+fn a_store_that_cannot_be_read_is_not_missing() {
+    let folder = Folder::new("unreadable");
+    let around = |path: &Path| std::os::unix::fs::symlink(path, path).unwrap();
+    let store = folder.join("store");
+    around(&store);
+    for command in ["list", "check", "rebuild"] {
+        let run = tool(command, &store, &[]);
+        run.is(1, "cannot read ")
+            .is(1, "Too many levels of symbolic links");
+    }
+    fs::remove_file(&store).unwrap();
+    fs::create_dir(&store).unwrap();
+    around(&store.join("commitlog"));
+    tool("list", &store, &[]).is(1, "store/commitlog: Too many levels of symbolic links");
+    fs::remove_file(store.join("commitlog")).unwrap();
+    fs::create_dir(store.join("commitlog")).unwrap();
+    around(&segment(&store, 0));
+    tool("list", &store, &["--resync"])
+        .is(1, "no segment can be read: ")
+        .is(
+            1,
+            "00000000000000000000: it is there, but cannot be read: Too many levels",
+        );
+    let pipe = folder.join("pipe");
+    let made = std::process::Command::new("mkfifo").arg(&pipe).status();
+    assert!(made.unwrap().success());
+    tool("list", &pipe, &[]).is(2, "pipe: it is a pipe, no folder");
+}
+
 /// The positions that a query or a queue shows, and which of them are marked.
 fn found(run: &Run) -> (Vec<u64>, Vec<u64>) {
     let json = run.json();
@@ -414,4 +445,138 @@ fn queries_and_queues_go_on_behind_a_missing_segment() {
     fs::remove_file(segment(&lagging, 16_384)).unwrap();
     let run = tool("query", &lagging, &ask("s3"));
     assert_eq!(found(run.is(1, missing)), (all.clone(), all));
+}
+
+/// The same numbers each time.
+struct Chance(u64);
+
+impl Chance {
+    fn below(&mut self, limit: usize) -> usize {
+        self.0 ^= self.0 << 13;
+        self.0 ^= self.0 >> 7;
+        self.0 ^= self.0 << 17;
+        (self.0 % limit as u64) as usize
+    }
+}
+
+const SEGMENT: usize = 16_384;
+const SEGMENTS: usize = 6;
+
+/// Segments full of records, some of which have copies of others in their bodies; first and last byte of each record.
+fn full_of_records(chance: &mut Chance) -> (Vec<Vec<u8>>, Vec<(usize, usize)>) {
+    let (mut segments, mut records) = (Vec::new(), Vec::new());
+    for number in 0..SEGMENTS {
+        let mut bytes: Vec<u8> = Vec::new();
+        loop {
+            let position = number * SEGMENT + bytes.len();
+            let mut one = record(
+                position as u64,
+                b"T",
+                (0, records.len() as u64),
+                1000,
+                b"KEYS\x01k",
+            );
+            let body = match chance.below(3) {
+                0 => one.clone(),
+                1 => bytes[bytes.len() / 2..].iter().copied().take(300).collect(),
+                _ => vec![chance.below(256) as u8; chance.below(300)],
+            };
+            let total = one.len() + body.len();
+            one[0..4].copy_from_slice(&(total as u32).to_be_bytes());
+            one[84..88].copy_from_slice(&(body.len() as u32).to_be_bytes());
+            one.splice(88..88, body);
+            let left = SEGMENT - bytes.len();
+            if total + 8 > left {
+                bytes.extend((left as u32).to_be_bytes());
+                bytes.extend([0xcb, 0xd4, 0x31, 0x94]);
+                bytes.resize(SEGMENT, 0);
+                break;
+            }
+            records.push((position, position + total));
+            bytes.extend(one);
+        }
+        segments.push(bytes);
+    }
+    (segments, records)
+}
+
+/// Changes one place in one of several ways.
+fn harm(segments: &mut [Vec<u8>], chance: &mut Chance) {
+    let (one, other) = (chance.below(SEGMENTS), chance.below(SEGMENTS));
+    let length = segments[one].len();
+    if length == 0 {
+        return;
+    }
+    let at = chance.below(length);
+    let end = length.min(at + 1 + chance.below(600));
+    let from = &segments[other];
+    let copied: Vec<u8> = from
+        .iter()
+        .copied()
+        .cycle()
+        .skip(chance.below(5000))
+        .take(end - at)
+        .collect();
+    let part = &mut segments[one][at..end];
+    match chance.below(6) {
+        0 => part[0] ^= 1 << chance.below(8),
+        1 => part.fill(0),
+        2 => part
+            .iter_mut()
+            .for_each(|byte| *byte = chance.below(256) as u8),
+        3 if copied.len() == part.len() => part.copy_from_slice(&copied),
+        4 => segments[one].truncate(at),
+        _ if one > 0 => segments[one].clear(),
+        _ => part[0] ^= 0xff,
+    }
+}
+
+/// Whatever the damage is: every record that it does not touch is listed, and nothing that was never written.
+#[test]
+fn no_damage_hides_what_it_does_not_touch() {
+    let folder = Folder::new("chance");
+    let mut chance = Chance(20_261_116);
+    let (sound, records) = full_of_records(&mut chance);
+    assert!(records.len() > 200);
+    for round in 0..120 {
+        let mut harmed = sound.clone();
+        for _ in 0..=chance.below(6) {
+            harm(&mut harmed, &mut chance);
+        }
+        let store = folder.join(&format!("round-{round}"));
+        fs::create_dir_all(store.join("commitlog")).unwrap();
+        for (number, bytes) in harmed
+            .iter()
+            .enumerate()
+            .filter(|(_, bytes)| !bytes.is_empty())
+        {
+            fs::write(segment(&store, (number * SEGMENT) as u64), bytes).unwrap();
+        }
+        let run = tool("list", &store, &["--resync", "--segment-size", "16384"]);
+        let (lines, _) = entries(&run.out);
+        let listed: Vec<usize> = lines
+            .iter()
+            .filter(|line| !line.ends_with(" blank"))
+            .map(|line| line.split(' ').next().unwrap().parse().unwrap())
+            .collect();
+        let untouched = |&&(from, to): &&(usize, usize)| {
+            let part = |segments: &[Vec<u8>]| {
+                let place = from % SEGMENT..to - from / SEGMENT * SEGMENT;
+                segments[from / SEGMENT].get(place).map(<[u8]>::to_vec)
+            };
+            part(&harmed) == part(&sound)
+        };
+        for (from, _) in records.iter().filter(untouched) {
+            assert!(
+                listed.contains(from),
+                "round {round}: {from} is hidden\n{}",
+                run.out
+            );
+        }
+        for position in &listed {
+            let written = records.iter().any(|(from, _)| from == position);
+            assert!(written, "round {round}: {position} was never written");
+        }
+        fs::remove_dir_all(store).unwrap();
+    }
 }

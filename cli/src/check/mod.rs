@@ -57,7 +57,10 @@ pub fn run(args: &Args) -> Result<Outcome, Failure> {
         None => site.copies(&mut report),
     }
     if report.sound() && !report.advises() {
-        report.advise("nothing: the store is sound");
+        report.advise(match report.limited() {
+            true => "nothing: no fault was found; what was not compared is told above",
+            false => "nothing: the store is sound",
+        });
     }
     report.print(args)?;
     match report.sound() {

@@ -6,6 +6,7 @@ use crate::log::{self, Log, Met, Place, Skipped, LAST_END};
 use crate::properties::{has_items, Names};
 use crate::record::{self, LeftOut, Read};
 use crate::text::{counted, grouped};
+use crate::wanted::Seen;
 use std::cmp::Reverse;
 use swistopal::{query, Answer, Entry, LogPosition, Message, Query};
 
@@ -52,6 +53,8 @@ pub struct Search<'a> {
     /// What is not read because of a limit of the archive.
     pub limits: Vec<String>,
     pub left_out: LeftOut,
+    /// What a look through the whole log saw.
+    seen: Seen,
     /// The first damage that was met.
     damage: Option<LogPosition>,
 }
@@ -71,6 +74,7 @@ impl<'a> Search<'a> {
             faults: log.faults.clone(),
             limits: log.limits.clone(),
             left_out: LeftOut::default(),
+            seen: Seen::default(),
             damage: None,
         }
     }
@@ -123,8 +127,9 @@ impl<'a> Search<'a> {
                 Ok(queried) => queried,
                 Err(refusal) => {
                     let number = refusal.number();
-                    self.faults
-                        .push(format!("index {name}: answer {number}: {refusal}"));
+                    self.faults.push(format!(
+                        "index {name}: answer {number}: {refusal}; --scan looks through the log itself"
+                    ));
                     return Ok(0);
                 }
             };
@@ -140,7 +145,8 @@ impl<'a> Search<'a> {
             }
             if queried.stop == Answer::ChainBroken {
                 once.faults.push(format!(
-                    "index {name}: answer 16 after {}: {}; older records may be missing here",
+                    "index {name}: answer 16 after {}: {}; older records may be missing here, and --scan looks through the log \
+                     itself",
                     counted(queried.items_read, "item", "items"),
                     queried.stop
                 ));
@@ -232,6 +238,7 @@ impl<'a> Search<'a> {
                 } => {
                     if let Entry::Record { length, message } = entry {
                         self.records_read += 1;
+                        self.seen.add(&message);
                         self.see(&Read {
                             position,
                             length,
@@ -246,6 +253,16 @@ impl<'a> Search<'a> {
         })?;
         self.tell_passed_over(passed_over);
         Ok(())
+    }
+
+    /// What there is where a look through the whole log found nothing.
+    pub fn hints_on_scan(&self) -> Vec<String> {
+        match self.found.is_empty() {
+            true => self
+                .seen
+                .hints("the log", self.asked.topic, self.asked.times),
+            false => Vec::new(),
+        }
     }
 
     fn see(&mut self, read: &Read<'a>) {
