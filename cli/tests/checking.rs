@@ -514,3 +514,22 @@ fn a_wrong_entry_behind_damage_is_told() {
     check.shows("item 151 differs from the log's");
     assert!(!check.out.contains("swistopal rebuild"), "{}", check.out);
 }
+
+/// What `queue` calls a fault, `check` does too.
+#[test]
+fn bytes_behind_the_end_of_a_queue_are_told() {
+    let folder = Folder::new("check-hole");
+    let store = built(&folder, "store");
+    edit(&queue_file(&store, "SORTER_TRIM", 0), |bytes| {
+        bytes[20 * 250] = 1
+    });
+    let said = "the size of entry 20 is 0, but bytes that are not zero stand from entry 250 on";
+    tool("queue", &store, &["--topic", "SORTER_TRIM", "--queue", "0"]).is(1, said);
+    let check = tool("check", &store, &[]);
+    check
+        .is(1, said)
+        .shows("6 of 7 queues as the log gives them");
+    let (_, call) = check.out.split_once("from the log: ").unwrap();
+    shell(call.trim()).is(0, "stop      0");
+    tool("check", &store, &[]).is(0, "7 of 7 queues");
+}

@@ -60,7 +60,8 @@ impl Standing {
         let sides = &compared.sides;
         for side in &sides.list {
             let missing = side.missing.first.map(|(_, position)| position);
-            let wrong = side.differing.count > 0 || !side.refused.is_empty();
+            let wrong =
+                side.differing.count > 0 || !side.refused.is_empty() || !side.holes.is_empty();
             take(&side.rest, missing, wrong || side.impossible.is_some());
         }
         if let Found::Merged { merge, rest } = &compared.index {

@@ -2,8 +2,7 @@
 //! hashes of its keys. It is appended to a log of its own, without its body, and dispatched there.
 
 use crate::index::{item_place, Bytes};
-use crate::queues::directory;
-use crate::queues::Queue;
+use crate::queues::{directory, Queue, QueueEntry, ENTRY};
 use swistopal::{
     append, dispatch, Answer, Dispatch, IndexGeometry, LogGeometry, LogPosition, Message, Progress,
     QueueEntries, QueueOffset,
@@ -44,11 +43,7 @@ impl Maker {
     }
 
     pub fn make(&mut self, message: &Message) -> Result<Made<'_>, Answer> {
-        if self.topic != message.topic {
-            self.topic = message.topic.to_vec();
-            let topic = self.topic.clone();
-            self.directory = directory(&[Queue { topic, id: 0 }]);
-        }
+        self.list(message.topic);
         let message = Message {
             queue_id: 0,
             queue_offset: QueueOffset(0),
@@ -73,19 +68,32 @@ impl Maker {
             budget: u64::MAX,
         };
         let mut progress = Progress::default();
-        let mut entry = [0; 20];
+        let mut entry = [0; ENTRY];
         let done = dispatch(&call, &mut progress, &mut entry, &mut self.index)?;
         if done.stop != Answer::Done {
             return Err(done.stop);
         }
-        let index = Bytes(&self.index);
-        self.hashes.clear();
-        let items = (1..index.used()).filter_map(|item| index.item_hash(INDEX.slots, item));
-        self.hashes.extend(items);
-        let code = entry[12..].try_into().expect("eight bytes");
+        let made = progress.counts[0] > QueueOffset(0);
         Ok(Made {
-            code: (progress.counts[0].0 > 0).then_some(u64::from_be_bytes(code)),
-            hashes: &self.hashes,
+            code: made.then_some(QueueEntry::of(&entry).code),
+            hashes: self.take_hashes(),
         })
+    }
+
+    /// Lists the one queue of a record.
+    fn list(&mut self, topic: &[u8]) {
+        if self.topic != topic {
+            self.topic = topic.to_vec();
+            let topic = self.topic.clone();
+            self.directory = directory(&[Queue { topic, id: 0 }]);
+        }
+    }
+
+    fn take_hashes(&mut self) -> &[u32] {
+        let index = Bytes(&self.index);
+        let items = (1..index.used()).filter_map(|item| index.item_hash(INDEX.slots, item));
+        self.hashes.clear();
+        self.hashes.extend(items);
+        &self.hashes
     }
 }

@@ -15,7 +15,8 @@ mod results;
 mod sides;
 mod survey;
 mod tell;
-mod tell_results;
+mod tell_index;
+mod tell_queues;
 
 use crate::args::Args;
 use crate::failure::{Failure, Outcome};
@@ -120,7 +121,18 @@ fn check_results(
     };
     let compared = comparer.compare()?;
     let listed = comparer.listed.as_deref();
-    tell_results::all(&compared, results, &reach, listed, report);
+    if let Some((position, answer)) = compared.refused {
+        let (at, number) = (position.0, answer.number());
+        let sentence = format!(
+            "the record at {at}: the archive makes nothing of it, answer {number}: {answer}"
+        );
+        report.add(fault("queues", "record", sentence).number("position", at));
+    }
+    tell_queues::queues(&compared.sides, &reach, listed, report);
+    if let Some(sentence) = &results.unreadable {
+        report.add(fault("queues", "unreadable", sentence.clone()));
+    }
+    tell_index::index(&compared, results, &reach, report);
     let standing = Standing::of(&compared, results);
     site.copies(report);
     if !check_work(site, &standing, report)? {

@@ -4,7 +4,7 @@ use crate::args::Args;
 use crate::failure::Failure;
 use crate::out;
 use crate::text::{array, string, Object};
-use std::io::Write;
+use std::io::{self, Write};
 
 /// What a finding means.
 #[derive(Clone, Copy, PartialEq, Eq)]
@@ -161,47 +161,65 @@ impl Report {
 
     pub fn print(&self, args: &Args) -> Result<(), Failure> {
         let mut out = out();
-        let is_missing = |finding: &&Finding| finding.part == "missing";
-        let (missing, found): (Vec<&Finding>, Vec<&Finding>) =
-            self.findings.iter().partition(is_missing);
         if args.flag("--jsonl") {
-            for finding in self.findings.iter() {
-                writeln!(out, "{}", finding.object())?;
-            }
-            for next in &self.next {
-                writeln!(out, "{}", next.object())?;
-            }
-            let end = Object::new().truth("summary", true);
-            let end = end.truth("sound", self.sound());
-            writeln!(out, "{}", end.truth("limited", self.limited()).end())?;
+            self.print_lines(&mut out)?;
         } else if args.flag("--json") {
-            let objects = |findings: &[&Finding]| {
-                let objects: Vec<String> = findings.iter().map(|one| one.object()).collect();
-                array(&objects)
-            };
-            let next: Vec<String> = self.next.iter().map(Next::object).collect();
-            let object = Object::new()
-                .truth("sound", self.sound())
-                .truth("limited", self.limited())
-                .raw("findings", &objects(&found))
-                .raw("missing", &objects(&missing))
-                .raw("next", &array(&next));
-            writeln!(out, "{}", object.end())?;
+            self.print_object(&mut out)?;
         } else {
-            for finding in found.iter().chain(&missing) {
-                let mark = match finding.weight {
-                    Weight::Fault => "! ",
-                    _ => "  ",
-                };
-                writeln!(out, "{mark}{:8} {}", finding.part, finding.sentence)?;
-            }
-            for next in &self.next {
-                let command = next.command.as_ref();
-                let command = command.map_or(String::new(), |command| format!(": {command}"));
-                writeln!(out, "  next     {}{command}", next.sentence)?;
-            }
+            self.print_text(&mut out)?;
         }
         out.flush()?;
+        Ok(())
+    }
+
+    /// What was found, and what is missing.
+    fn parts(&self) -> (Vec<&Finding>, Vec<&Finding>) {
+        let is_found = |finding: &&Finding| finding.part != "missing";
+        self.findings.iter().partition(is_found)
+    }
+
+    fn print_lines(&self, out: &mut impl Write) -> io::Result<()> {
+        for finding in &self.findings {
+            writeln!(out, "{}", finding.object())?;
+        }
+        for next in &self.next {
+            writeln!(out, "{}", next.object())?;
+        }
+        let end = Object::new().truth("summary", true);
+        let end = end.truth("sound", self.sound());
+        writeln!(out, "{}", end.truth("limited", self.limited()).end())
+    }
+
+    fn print_object(&self, out: &mut impl Write) -> io::Result<()> {
+        let (found, missing) = self.parts();
+        let objects = |findings: &[&Finding]| {
+            let objects: Vec<String> = findings.iter().map(|one| one.object()).collect();
+            array(&objects)
+        };
+        let next: Vec<String> = self.next.iter().map(Next::object).collect();
+        let object = Object::new()
+            .truth("sound", self.sound())
+            .truth("limited", self.limited())
+            .raw("findings", &objects(&found))
+            .raw("missing", &objects(&missing))
+            .raw("next", &array(&next));
+        writeln!(out, "{}", object.end())
+    }
+
+    fn print_text(&self, out: &mut impl Write) -> io::Result<()> {
+        let (found, missing) = self.parts();
+        for finding in found.iter().chain(&missing) {
+            let mark = match finding.weight {
+                Weight::Fault => "! ",
+                _ => "  ",
+            };
+            writeln!(out, "{mark}{:8} {}", finding.part, finding.sentence)?;
+        }
+        for next in &self.next {
+            let command = next.command.as_ref();
+            let command = command.map_or(String::new(), |command| format!(": {command}"));
+            writeln!(out, "  next     {}{command}", next.sentence)?;
+        }
         Ok(())
     }
 }

@@ -29,6 +29,8 @@ pub struct Side {
     /// Entries whose code is that of a tag which is not ASCII.
     pub other_hash: u64,
     pub rest: Rest,
+    /// What is wrong with its files where nothing else is.
+    pub holes: Vec<String>,
     /// The numbers of the entries that were compared.
     compared: Vec<Range<u64>>,
     next: Option<u64>,
@@ -172,6 +174,7 @@ impl Side {
             out_of_step: Tally::default(),
             other_hash: 0,
             rest: Rest::default(),
+            holes: Vec::new(),
             compared: Vec::new(),
             next: None,
             passed: 0,
@@ -281,6 +284,9 @@ impl Side {
                 }
             }
         }
+        if self.is_sound() {
+            self.holes = queues::faults(&self.files);
+        }
     }
 
     /// Whether nothing is wrong with it.
@@ -291,5 +297,6 @@ impl Side {
             && self.differing.count == 0
             && self.rest.behind == 0
             && self.rest.strays.count == 0
+            && self.holes.is_empty()
     }
 }
