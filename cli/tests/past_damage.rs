@@ -106,7 +106,8 @@ fn zeros_and_garbage_are_passed_over() {
             .filter(|line| !(from..to).contains(&position(line)));
         kept.cloned().collect()
     };
-    let harms: [(&str, fn(&mut [u8])); 4] = [
+    type Harm = fn(&mut [u8]);
+    let harms: [(&str, Harm); 4] = [
         ("zeros", |bytes| bytes.fill(0)),
         ("ones", |bytes| bytes.fill(0xff)),
         // Every place looks like a record's or a blank's start.
