@@ -225,7 +225,8 @@ fn folders_and_pipes_are_no_files() {
         let made = Command::new("mkfifo").arg(path).status().unwrap();
         assert!(made.success());
     };
-    let makers: [(&str, &dyn Fn(&Path)); 2] = [
+    type Maker<'m> = (&'m str, &'m dyn Fn(&Path));
+    let makers: [Maker; 2] = [
         ("a folder", &|path| fs::create_dir(path).unwrap()),
         ("a pipe", &pipe),
     ];
