@@ -192,6 +192,56 @@ fn times_of_delivery_are_not_replaced_without_being_asked() {
     assert!(files(&kept[0]) == files_below(&before, "consumequeue"));
 }
 
+/// Older segments were removed: each queue starts at its first record, wherever that comes.
+#[test]
+fn queues_of_a_log_without_its_start() {
+    let folder = Folder::new("start");
+    let mut broker = Broker::new(&folder.join("store"))
+        .segment_size(8192)
+        .first_position(4 * 8192)
+        .queue_entries(300)
+        .first_entry("T", 0, 100)
+        .first_entry("T", 1, 7)
+        .first_entry("LATE", 0, 250);
+    for number in 0..60u32 {
+        broker.put(Message {
+            topic: if number < 40 { "T" } else { "LATE" },
+            queue_id: number % if number < 40 { 3 } else { 2 },
+            keys: &format!("P{number}"),
+            ..Message::default()
+        });
+    }
+    let store = broker.finish();
+    let list = folder.join("queues");
+    fs::write(&list, "LATE 1\nT 0\nLATE 0\nT 2\nT 1\n").unwrap();
+    let listed = ["--queues", list.to_str().unwrap()];
+    for (number, options) in [
+        &[][..],
+        &["--batch", "1"],
+        &["--batch", "7"],
+        &["--budget", "50"],
+        &["--budget", "0"],
+        &listed,
+        &[&listed[..], &["--batch", "3"]].concat(),
+        &[&listed[..], &["--budget", "20"]].concat(),
+    ]
+    .into_iter()
+    .enumerate()
+    {
+        let log = folder.join(&number.to_string());
+        copy(&store.join("commitlog"), &log.join("commitlog"));
+        let sizes = ["--entries", "300", "--slots", "500", "--items", "2000"];
+        let run = tool("rebuild", &log, &[&sizes[..], options].concat());
+        if options.contains(&"--budget") {
+            run.is(0, "stop      9");
+            tool("rebuild", &log, &[]).is(0, "stop      0");
+        } else {
+            run.is(0, "stop      0");
+        }
+        assert!(files(&log) == files(&store), "{options:?}");
+    }
+}
+
 /// Of all files those below a folder, by their names there.
 fn files_below(
     all: &std::collections::BTreeMap<PathBuf, Vec<u8>>,
