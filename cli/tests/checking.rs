@@ -225,7 +225,8 @@ fn folders_and_pipes_are_no_files() {
         let made = Command::new("mkfifo").arg(path).status().unwrap();
         assert!(made.success());
     };
-    let makers: [(&str, &dyn Fn(&Path)); 2] = [
+    type Maker<'m> = (&'m str, &'m dyn Fn(&Path));
+    let makers: [Maker; 2] = [
         ("a folder", &|path| fs::create_dir(path).unwrap()),
         ("a pipe", &pipe),
     ];
@@ -532,4 +533,32 @@ fn bytes_behind_the_end_of_a_queue_are_told() {
     let (_, call) = check.out.split_once("from the log: ").unwrap();
     shell(call.trim()).is(0, "stop      0");
     tool("check", &store, &[]).is(0, "7 of 7 queues");
+}
+
+/// A broker may have been told to make larger files than this tool takes.
+#[test]
+fn files_that_are_too_large_are_no_fault() {
+    let folder = Folder::new("check-large");
+    let mut queues = Broker::new(&folder.join("queues")).queue_entries(400_000);
+    let mut indexes = Broker::new(&folder.join("indexes"))
+        .slots(6_000_000)
+        .items(24_000_000);
+    keyed(&mut queues, 10);
+    keyed(&mut indexes, 10);
+    for (store, said) in [
+        (
+            queues.finish(),
+            "400,000 entries; this tool reads queue files of 300,000 at most",
+        ),
+        (
+            indexes.finish(),
+            "504,000,040 bytes; this tool reads an index of 420,000,040 at most",
+        ),
+    ] {
+        let check = tool("check", &store, &[]);
+        check.is(0, said);
+        for wrong in ["rebuild", "missing", "not there"] {
+            assert!(!check.out.contains(wrong), "{}", check.out);
+        }
+    }
 }

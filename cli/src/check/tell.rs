@@ -124,12 +124,7 @@ pub fn limits(log: &Log, survey: &Survey, report: &mut Report) {
     for sentence in &log.limits {
         report.add(limit("position", sentence.clone()));
     }
-    for skipped in &survey.skipped {
-        if let Cause::LongHosts(records) = skipped.why {
-            let hosts = limit("hosts", skipped.sentence()).number("records", records);
-            report.add(hosts.number("position", skipped.from.0));
-        }
-    }
+    long_hosts(survey, report);
     let queues = survey.queues.list.len();
     if queues > MOST_QUEUES {
         let sentence = format!("{queues} queues; this tool makes {MOST_QUEUES} at once");
@@ -141,7 +136,7 @@ pub fn limits(log: &Log, survey: &Survey, report: &mut Report) {
     if let Some(longest) = long.clone().max_by_key(|seen| seen.last) {
         let (entries, most) = (longest.last + 1, MOST_ENTRIES);
         let sentence = format!(
-            "{} past {} entries, {} with {}; this tool makes so many of a queue",
+            "{} past {} entries, which is what this tool makes of one; {} has {}",
             counted(long.count() as u64, "queue goes", "queues go"),
             grouped(most),
             longest.queue.shown(),
@@ -156,6 +151,25 @@ pub fn limits(log: &Log, survey: &Survey, report: &mut Report) {
         );
     }
     delayed(survey, report);
+}
+
+fn long_hosts(survey: &Survey, report: &mut Report) {
+    let parts = survey
+        .skipped
+        .iter()
+        .filter_map(|skipped| match skipped.why {
+            Cause::LongHosts(records) => Some((skipped.from.0, records)),
+            _ => None,
+        });
+    let records: u64 = parts.clone().map(|(_, records)| records).sum();
+    if let Some((first, _)) = parts.clone().next() {
+        let sentence = format!(
+            "{} with hosts of 20 bytes (IPv6), the first at {first}; this tool does not read them, and that is no damage",
+            counted(records, "record", "records")
+        );
+        let hosts = limit("hosts", sentence).number("records", records);
+        report.add(hosts.number("position", first));
+    }
 }
 
 fn delayed(survey: &Survey, report: &mut Report) {
