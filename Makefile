@@ -90,8 +90,12 @@ bench: $(archive)
 interface: $(archive) $(LISTER)
 	tests/interface.sh
 
-# The demo store is made anew each time.
-tour: cli
+# The demo store is made anew each time. What proving and building say is kept apart, for when they fail.
+tour_log := target/tour.log
+tour:
+	@mkdir -p target
+	@$(MAKE) --question --no-print-directory cli 2> /dev/null || echo 'proving and building first: some minutes' >&2
+	@$(MAKE) --no-print-directory cli > $(tour_log) 2>&1 || { echo 'proving or building failed: see $(tour_log)' >&2; exit 1; }
 	@rm -rf target/tour
 	target/bin/swistopal demo target/tour
 	target/bin/swistopal rebuild target/tour

@@ -4,22 +4,28 @@ _swistopal() {
     local word=${COMP_WORDS[COMP_CWORD]} before=${COMP_WORDS[COMP_CWORD - 1]} options
     COMPREPLY=()
     if ((COMP_CWORD == 1)); then
-        mapfile -t COMPREPLY < <(compgen -W 'demo list rebuild query queue check --help --version' -- "$word")
+        mapfile -t COMPREPLY < <(compgen -W 'demo list rebuild query queue show check --help --version' -- "$word")
         return
     fi
     case ${COMP_WORDS[1]} in
         demo) options='--help' ;;
-        list) options='--from --limit --long --json --end --segment-size --help' ;;
-        rebuild) options='--queues --budget --batch --entries --slots --items --force --restart --json --end --segment-size --help' ;;
-        query) options='--topic --key --from --to --limit --body --json --slots --end --segment-size --help' ;;
-        queue) options='--topic --queue --start --limit --tag --body --json --end --segment-size --help' ;;
-        check) options='--queues --slots --json --end --segment-size --help' ;;
+        list) options='--from --limit --topic --from-time --to-time --resync --long --json --jsonl --end --segment-size --help' ;;
+        rebuild) options='--into --force --shorten --after-crash --queues --budget --batch --entries --slots --items --restart --json --end --segment-size --help' ;;
+        query) options='--topic --key --unique-key --from --to --limit --body --scan --json --jsonl --slots --end --segment-size --help' ;;
+        queue) options='--topic --queue --start --limit --tag --body --json --jsonl --end --segment-size --help' ;;
+        show) options='--raw --json --end --segment-size --help' ;;
+        check) options='--bodies --queues --slots --items --json --jsonl --end --segment-size --help' ;;
         *) return ;;
     esac
     case $before in
         --queues)
             compopt -o filenames 2> /dev/null
             mapfile -t COMPREPLY < <(compgen -f -- "$word")
+            return
+            ;;
+        --into)
+            compopt -o filenames 2> /dev/null
+            mapfile -t COMPREPLY < <(compgen -d -- "$word")
             return
             ;;
         --topic)
@@ -36,14 +42,14 @@ _swistopal() {
             done
             return
             ;;
-        --json | --long | --body | --force | --restart | --help) ;;
+        --json | --jsonl | --long | --resync | --body | --bodies | --scan | --raw | --force | --shorten | --after-crash | --restart | --help) ;;
         --*) return ;;
     esac
     if [[ $word == -* ]]; then
         mapfile -t COMPREPLY < <(compgen -W "$options" -- "$word")
     else
         compopt -o filenames 2> /dev/null
-        if [[ ${COMP_WORDS[1]} == list ]]; then
+        if [[ ${COMP_WORDS[1]} == list || ${COMP_WORDS[1]} == show ]]; then
             mapfile -t COMPREPLY < <(compgen -f -- "$word")
         else
             mapfile -t COMPREPLY < <(compgen -d -- "$word")

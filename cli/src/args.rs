@@ -1,4 +1,5 @@
-//! The command line: `--name value`, `--name=value`, flags, and one place. Values are bytes, as keys may be any.
+//! The command line: `--name value`, `--name=value`, flags, and one place, which a second word may follow. Values are bytes, as
+//! keys may be any.
 
 use crate::failure::{usage, Failure};
 use crate::text::shown;
@@ -9,67 +10,101 @@ use std::path::{Path, PathBuf};
 
 pub struct Args {
     place: PathBuf,
+    second: Option<OsString>,
     flags: Vec<&'static str>,
     values: Vec<(&'static str, OsString)>,
 }
 
 impl Args {
+    /// `second` is what the word behind the place is, for a command that takes one.
     pub fn parse(
         mut words: impl Iterator<Item = OsString>,
         flags: &[&'static str],
         values: &[&'static str],
+        second: Option<&str>,
     ) -> Result<Args, Failure> {
-        let mut place = None;
+        let mut plain: Vec<OsString> = Vec::new();
         let mut given = Args {
             place: PathBuf::new(),
+            second: None,
             flags: Vec::new(),
             values: Vec::new(),
         };
-        let mut only_places = false;
+        let mut only_plain = false;
         while let Some(word) = words.next() {
             let bytes = word.as_bytes();
-            if !only_places && bytes == b"--" {
-                only_places = true;
-                continue;
-            }
-            if only_places || !bytes.starts_with(b"-") || bytes == b"-" {
-                if place.replace(PathBuf::from(&word)).is_some() {
-                    return usage(format!("{}: one place is enough", shown(bytes)));
-                }
-                continue;
-            }
-            let (name, value) = match bytes.iter().position(|byte| *byte == b'=') {
-                Some(at) => (&bytes[..at], Some(&bytes[at + 1..])),
-                None => (bytes, None),
-            };
-            let known = |names: &[&'static str]| {
-                let found = names.iter().find(|known| known.as_bytes() == name);
-                found.copied()
-            };
-            if let Some(flag) = known(flags) {
-                if value.is_some() {
-                    return usage(format!("{flag} takes no value"));
-                }
-                given.flags.push(flag);
-            } else if let Some(option) = known(values) {
-                let value = match value {
-                    Some(value) => OsString::from_vec(value.to_vec()),
-                    None => match words.next() {
-                        Some(value) => value,
-                        None => return usage(format!("{option} needs a value")),
-                    },
-                };
-                if given.values.iter().any(|(name, _)| *name == option) {
-                    return usage(format!("{option} is given twice"));
-                }
-                given.values.push((option, value));
+            if !only_plain && bytes == b"--" {
+                only_plain = true;
+            } else if only_plain || !bytes.starts_with(b"-") || bytes == b"-" {
+                plain.push(word);
             } else {
-                return usage(format!("no such option: {}", shown(name)));
+                given.take(bytes, &mut words, flags, values)?;
             }
         }
-        match place {
-            Some(place) => Ok(Args { place, ..given }),
-            None => usage("which folder?"),
+        let mut plain = plain.into_iter();
+        given.place = match plain.next() {
+            Some(place) => PathBuf::from(place),
+            None => return usage("which folder?"),
+        };
+        if let Some(second) = second {
+            given.second = plain.next();
+            if given.second.is_none() {
+                return usage(format!("which {second}?"));
+            }
+        }
+        match plain.next() {
+            Some(more) => usage(format!(
+                "{}: one {} is enough",
+                shown(more.as_bytes()),
+                second.unwrap_or("place")
+            )),
+            None => Ok(given),
+        }
+    }
+
+    /// Takes a flag, or an option with its value.
+    fn take(
+        &mut self,
+        word: &[u8],
+        words: &mut impl Iterator<Item = OsString>,
+        flags: &[&'static str],
+        values: &[&'static str],
+    ) -> Result<(), Failure> {
+        let (name, value) = match word.iter().position(|byte| *byte == b'=') {
+            Some(at) => (&word[..at], Some(&word[at + 1..])),
+            None => (word, None),
+        };
+        let known = |names: &[&'static str]| {
+            let found = names.iter().find(|known| known.as_bytes() == name);
+            found.copied()
+        };
+        if let Some(flag) = known(flags) {
+            if value.is_some() {
+                return usage(format!("{flag} takes no value"));
+            }
+            self.flags.push(flag);
+            return Ok(());
+        }
+        let Some(option) = known(values) else {
+            return usage(format!("no such option: {}", shown(name)));
+        };
+        let value = value.map(|value| OsString::from_vec(value.to_vec()));
+        let Some(value) = value.or_else(|| words.next()) else {
+            return usage(format!("{option} needs a value"));
+        };
+        if self.values.iter().any(|(name, _)| *name == option) {
+            return usage(format!("{option} is given twice"));
+        }
+        self.values.push((option, value));
+        Ok(())
+    }
+
+    /// The word behind the place, as a number.
+    pub fn second_number(&self) -> Result<u64, Failure> {
+        let word = self.second.as_deref().unwrap_or_default();
+        match word.to_str().and_then(number) {
+            Some(number) => Ok(number),
+            None => usage(format!("{}: a number is needed", shown(word.as_bytes()))),
         }
     }
 

@@ -1,11 +1,14 @@
 //! `swistopal demo`: a small store of a parcel sorter, the same one each time.
 
 use crate::args::Args;
+use crate::crc;
 use crate::failure::{fault, usage, At, Failure, Outcome};
+use crate::shell;
 use crate::text::{counted, grouped, shown_path};
 use crate::{note, out};
 use std::fs;
 use std::io::Write;
+use std::os::unix::ffi::OsStrExt;
 use swistopal::{append, Appended, LogGeometry, LogPosition, Message, QueueOffset};
 
 const SEGMENT: usize = 65_536;
@@ -52,9 +55,10 @@ pub fn run(args: &Args) -> Result<Outcome, Failure> {
         counted(sorter.queues.len() as u64, "queue", "queues"),
     )?;
     out.flush()?;
-    note(&format!("next: swistopal rebuild {place}"));
+    let word = shell::place(store.as_os_str().as_bytes());
+    note(&format!("next: swistopal rebuild {word}"));
     note(&format!(
-        "then: swistopal query {place} --topic {DIVERT} --key P000017"
+        "then: swistopal query {word} --topic {DIVERT} --key P000017"
     ));
     Ok(Outcome::Sound)
 }
@@ -146,7 +150,7 @@ impl Sorter {
             self.records
         );
         let message = Message {
-            body_crc: crc32(body.as_bytes()) & 0x7fff_ffff,
+            body_crc: crc::of_body(body.as_bytes()),
             queue_id,
             queue_offset: QueueOffset(self.next_offset(topic, queue_id)),
             born_time: self.clock - 3,
@@ -191,25 +195,5 @@ impl Sorter {
         self.chance ^= self.chance >> 7;
         self.chance ^= self.chance << 17;
         self.chance % below
-    }
-}
-
-/// RocketMQ's body checksum; a broker that reads the demo checks it.
-fn crc32(bytes: &[u8]) -> u32 {
-    let mut crc = u32::MAX;
-    for byte in bytes {
-        crc ^= u32::from(*byte);
-        for _ in 0..8 {
-            crc = (crc >> 1) ^ (0xedb8_8320 & (crc & 1).wrapping_neg());
-        }
-    }
-    !crc
-}
-
-#[cfg(test)]
-mod tests {
-    #[test]
-    fn checksum() {
-        assert_eq!(super::crc32(b"123456789"), 0xcbf4_3926);
     }
 }

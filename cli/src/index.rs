@@ -1,19 +1,23 @@
 //! The index files of a store folder, and how many slots and items one has: the file does not say it.
 
 use crate::args::Args;
-use crate::failure::{fault, usage, At, Failure};
+use crate::failure::{usage, Failure};
+use crate::files::{self, Refused, Unfit};
 use crate::map::View;
+use crate::shell;
 use crate::text::{grouped, shown_path};
-use std::fs::{self, File};
 use std::os::unix::ffi::OsStrExt;
 use std::path::{Path, PathBuf};
 use swistopal::IndexGeometry;
 
 pub const MOST_SLOTS: u64 = 5_000_000;
 pub const MOST_ITEMS: u64 = 20_000_000;
+/// The highest position that the archive takes.
+const LAST_POSITION: u64 = 1 << 40;
 const HEADER: u64 = 40;
 const SLOT: u64 = 4;
 const ITEM: u64 = 20;
+const MOST_BYTES: u64 = HEADER + SLOT * MOST_SLOTS + ITEM * MOST_ITEMS;
 
 const SIZES_UNKNOWN: &str =
     "its first and last item do not stand where its header says: it is damaged, or --slots is needed";
@@ -26,6 +30,19 @@ pub struct Index {
     pub doubt: Option<String>,
 }
 
+impl Index {
+    /// Whether it names positions above those that the archive takes: a limit of this tool, and no bad header.
+    pub fn is_above_the_limit(&self) -> bool {
+        let last = Bytes(&self.bytes).last_position();
+        last.is_some_and(|last| (LAST_POSITION + 1..1 << 63).contains(&last))
+    }
+
+    /// Whether it has no item: it is new, or it follows a full one.
+    pub fn is_empty(&self) -> bool {
+        Bytes(&self.bytes).used() <= 1
+    }
+}
+
 /// The index files that could be opened, and why others could not.
 #[derive(Default)]
 pub struct Opened {
@@ -33,21 +50,21 @@ pub struct Opened {
     pub faults: Vec<String>,
 }
 
-/// Paths of the index files by name, which is by time: RocketMQ's names are digits alone. A backup or a note is no index.
-pub fn paths(store: &Path) -> Result<Vec<PathBuf>, Failure> {
-    let folder = store.join("index");
-    if !folder.is_dir() {
-        return Ok(Vec::new());
-    }
-    let mut paths = Vec::new();
-    for entry in fs::read_dir(&folder).at("read", &folder)? {
-        let path = entry.at("read", &folder)?.path();
+/// Paths of the index files by name, which is by time. A folder is none.
+pub fn paths(store: &Path) -> Result<Vec<PathBuf>, Refused> {
+    let mut paths = named(store)?;
+    // What cannot be asked is told when it is opened.
+    paths.retain(|path| path.metadata().map_or(true, |found| found.is_file()));
+    Ok(paths)
+}
+
+/// All that stands under an index's name: a time's 17 digits, more from the year 10000 on. A backup or a note is no index.
+pub fn named(store: &Path) -> Result<Vec<PathBuf>, Refused> {
+    let mut paths = files::within(&store.join("index"))?;
+    paths.retain(|path| {
         let name = path.file_name().unwrap_or_default().as_bytes();
-        if name.iter().all(u8::is_ascii_digit) && path.is_file() {
-            paths.push(path);
-        }
-    }
-    paths.sort();
+        name.len() >= 17 && name.iter().all(u8::is_ascii_digit)
+    });
     Ok(paths)
 }
 
@@ -62,17 +79,21 @@ pub fn open_all(args: &Args) -> Result<Opened, Failure> {
     let mut refusal = None;
     for path in paths(store)? {
         match open(&path, slots) {
-            Ok(index) => opened.indexes.push(index),
-            Err(Failure::Fault(sentence)) => opened.faults.push(format!(
+            Ok(Ok(index)) => opened.indexes.push(index),
+            Ok(Err(Refused { sentence, .. })) => opened.faults.push(format!(
                 "{sentence}; it is not asked; `swistopal check {}` says what to do",
-                shown_path(store)
+                shell::place(store.as_os_str().as_bytes())
             )),
             Err(Failure::Usage(sentence)) => {
                 opened.faults.push(format!("{sentence}; it is not asked"));
                 refusal = Some(sentence);
             }
-            Err(Failure::Unread) => return Err(Failure::Unread),
+            Err(other) => return Err(other),
         }
+    }
+    // One that was begun anew and has no item yet has nothing to be asked for.
+    if opened.indexes.iter().any(|index| !index.is_empty()) {
+        opened.indexes.retain(|index| !index.is_empty());
     }
     match refusal {
         Some(sentence) if opened.indexes.is_empty() => usage(sentence),
@@ -80,19 +101,12 @@ pub fn open_all(args: &Args) -> Result<Opened, Failure> {
     }
 }
 
-pub fn open(path: &Path, slots: Option<u64>) -> Result<Index, Failure> {
-    let file = File::open(path).at("open", path)?;
-    let length = file.metadata().at("read", path)?.len();
-    if !length_possible(length) {
-        return fault(format!(
-            "{}: {} bytes are no index; one has 40 + 4 K + 20 N, K from 1 to {} and N from 2 to {}",
-            shown_path(path),
-            grouped(length),
-            grouped(MOST_SLOTS),
-            grouped(MOST_ITEMS)
-        ));
-    }
-    let bytes = View::of_file(&file, length as usize).at("map", path)?;
+/// An index, or why it is none; the failure is of `--slots`.
+pub fn open(path: &Path, slots: Option<u64>) -> Result<Result<Index, Refused>, Failure> {
+    let (bytes, length) = match lend(path) {
+        Ok(lent) => lent,
+        Err(refused) => return Ok(Err(refused)),
+    };
     let (geometry, sure) = match slots {
         Some(slots) => match geometry_of(length, slots) {
             Some(geometry) => (geometry, true),
@@ -106,7 +120,10 @@ pub fn open(path: &Path, slots: Option<u64>) -> Result<Index, Failure> {
         },
         None => match found_geometry(&bytes) {
             Some(found) => found,
-            None => return fault(format!("{}: {}", shown_path(path), SIZES_UNKNOWN)),
+            None => {
+                let sentence = format!("{}: {}", shown_path(path), SIZES_UNKNOWN);
+                return Ok(Err(Refused::new(Unfit::Content, sentence)));
+            }
         },
     };
     let name = path.file_name().unwrap_or_default();
@@ -118,18 +135,45 @@ pub fn open(path: &Path, slots: Option<u64>) -> Result<Index, Failure> {
             grouped(geometry.items)
         )
     });
-    Ok(Index {
+    Ok(Ok(Index {
         name,
         bytes,
         geometry,
         doubt,
-    })
+    }))
+}
+
+/// The bytes of a file whose length an index may have.
+fn lend(path: &Path) -> Result<(View, u64), Refused> {
+    let (file, length) = files::open(path)?;
+    let place = shown_path(path);
+    if length > MOST_BYTES {
+        let (length, most) = (grouped(length), grouped(MOST_BYTES));
+        let sentence =
+            format!("{place}: {length} bytes; this tool reads an index of {most} at most");
+        return Err(Refused::new(Unfit::Limit, sentence));
+    }
+    if !length_possible(length) {
+        let sentence = format!(
+            "{place}: {} bytes are no index; one has 40 + 4 K + 20 N, K from 1 to {} and N from 2 to {}",
+            grouped(length),
+            grouped(MOST_SLOTS),
+            grouped(MOST_ITEMS)
+        );
+        return Err(Refused::new(Unfit::Content, sentence));
+    }
+    match View::of_file(&file, length as usize) {
+        Ok(bytes) => Ok((bytes, length)),
+        Err(error) => {
+            let sentence = format!("cannot map {place}: {error}");
+            Err(Refused::new(Unfit::Unreadable, sentence))
+        }
+    }
 }
 
 fn length_possible(length: u64) -> bool {
     let least = HEADER + SLOT + 2 * ITEM;
-    let most = HEADER + SLOT * MOST_SLOTS + ITEM * MOST_ITEMS;
-    (least..=most).contains(&length) && (length - HEADER).is_multiple_of(SLOT)
+    (least..=MOST_BYTES).contains(&length) && (length - HEADER).is_multiple_of(SLOT)
 }
 
 fn geometry_of(length: u64, slots: u64) -> Option<IndexGeometry> {
@@ -188,12 +232,50 @@ impl Bytes<'_> {
         self.number::<8>(24).filter(|_| self.used() > 1)
     }
 
+    /// The store times of its first and its last record.
+    pub fn times(&self) -> Option<(u64, u64)> {
+        let times = (self.number::<8>(0)?, self.number::<8>(8)?);
+        (self.used() > 1).then_some(times)
+    }
+
     pub fn filled(&self) -> u64 {
         self.number::<4>(32).unwrap_or(0)
     }
 
     pub fn item_position(&self, slots: u64, item: u64) -> Option<u64> {
         self.number::<8>(item_place(slots, item) + 4)
+    }
+
+    pub fn item_hash(&self, slots: u64, item: u64) -> Option<u32> {
+        self.number::<4>(item_place(slots, item))
+            .map(|hash| hash as u32)
+    }
+
+    pub fn seconds(&self, slots: u64, item: u64) -> Option<u64> {
+        self.number::<4>(item_place(slots, item) + 12)
+    }
+
+    /// What its slot had before an item.
+    pub fn link(&self, slots: u64, item: u64) -> Option<u64> {
+        self.number::<4>(item_place(slots, item) + 16)
+    }
+
+    /// The header's fields by their names; a used count of 0 reads as 1.
+    pub fn header(&self) -> [(&'static str, u64); 6] {
+        let field = |number: u64| self.number::<8>(8 * number).unwrap_or(0);
+        [
+            ("first time", field(0)),
+            ("last time", field(1)),
+            ("first position", field(2)),
+            ("last position", field(3)),
+            ("filled slots", self.filled()),
+            ("used count", self.used()),
+        ]
+    }
+
+    /// The position of the first record that has an item.
+    pub fn first_position(&self) -> Option<u64> {
+        self.number::<8>(16).filter(|_| self.used() > 1)
     }
 
     /// The slot that an item's hash gives.

@@ -1,6 +1,7 @@
-//! The journal of a rebuild: what the last batch changed, and how far it came. It is written whole, brought to the disk and
-//! renamed into place before the first changed byte reaches the work files; so at any moment the work files are those before
-//! the batch, or the journal that makes them those after it stands there. Applying it again changes nothing.
+//! The journal of a rebuild: what the last batch changed of header and slots, and how far it came. Entries and items stand at
+//! places of their own, which nothing counts before the journal does: they are on the disk before it. It is written whole,
+//! brought to the disk and renamed into place before the first changed byte reaches the index; so at any moment the work files
+//! are those before the batch, or the journal that makes them those after it stands there. Applying it again changes nothing.
 
 use std::fs::File;
 use std::io::{self, BufWriter, Write};
@@ -8,15 +9,9 @@ use std::os::unix::fs::FileExt;
 use std::path::Path;
 use swistopal::{LogPosition, Progress, QueueOffset};
 
-const MAGIC: &[u8; 8] = b"SWISTJ01";
+const MAGIC: &[u8; 8] = b"SWISTJ02";
 const NO_MORE: u8 = 0;
-
-/// The files that a batch changes.
-#[derive(Clone, Copy, PartialEq, Eq)]
-pub enum Target {
-    Queues = 1,
-    Index = 2,
-}
+const PATCH: u8 = 1;
 
 #[derive(Clone, Copy, PartialEq, Eq, Debug)]
 pub enum Stage {
@@ -32,18 +27,53 @@ pub struct State {
     pub progress: Progress,
 }
 
-/// FNV-1a, 64 bits.
-struct Sum(u64);
+/// A sum over words of 8 bytes, the last one filled up with zeros; then over the number of bytes.
+struct Sum {
+    value: u64,
+    length: u64,
+    /// Bytes of a word that is not whole yet.
+    begun: [u8; 8],
+}
 
 impl Sum {
     fn new() -> Sum {
-        Sum(0xcbf2_9ce4_8422_2325)
+        Sum {
+            value: 0xcbf2_9ce4_8422_2325,
+            length: 0,
+            begun: [0; 8],
+        }
     }
 
-    fn add(&mut self, bytes: &[u8]) {
-        for byte in bytes {
-            self.0 = (self.0 ^ u64::from(*byte)).wrapping_mul(0x0100_0000_01b3);
+    fn add(&mut self, mut bytes: &[u8]) {
+        let filled = (self.length % 8) as usize;
+        self.length += bytes.len() as u64;
+        if filled > 0 {
+            let (head, rest) = bytes.split_at(bytes.len().min(8 - filled));
+            self.begun[filled..filled + head.len()].copy_from_slice(head);
+            if filled + head.len() < 8 {
+                return;
+            }
+            self.word(self.begun);
+            bytes = rest;
         }
+        let mut words = bytes.chunks_exact(8);
+        for word in &mut words {
+            self.word(word.try_into().expect("eight bytes"));
+        }
+        let rest = words.remainder();
+        self.begun = [0; 8];
+        self.begun[..rest.len()].copy_from_slice(rest);
+    }
+
+    fn word(&mut self, word: [u8; 8]) {
+        let mixed = (self.value ^ u64::from_be_bytes(word)).wrapping_mul(0x9e37_79b9_7f4a_7c15);
+        self.value = mixed ^ (mixed >> 32);
+    }
+
+    fn end(mut self) -> u64 {
+        self.word(self.begun);
+        self.word(self.length.to_be_bytes());
+        self.value
     }
 }
 
@@ -69,11 +99,9 @@ impl Writer {
         Ok(writer)
     }
 
-    pub fn patch(&mut self, target: Target, place: u64, bytes: &[u8]) -> io::Result<()> {
-        if bytes.is_empty() {
-            return Ok(());
-        }
-        self.put(&[target as u8])?;
+    /// Bytes of the index.
+    pub fn patch(&mut self, place: u64, bytes: &[u8]) -> io::Result<()> {
+        self.put(&[PATCH])?;
         self.put(&place.to_be_bytes())?;
         self.put(&(bytes.len() as u64).to_be_bytes())?;
         self.put(bytes)
@@ -82,7 +110,7 @@ impl Writer {
     /// Ends it and waits until the disk has it.
     pub fn finish(mut self) -> io::Result<()> {
         self.put(&[NO_MORE])?;
-        self.out.write_all(&self.sum.0.to_be_bytes())?;
+        self.out.write_all(&self.sum.end().to_be_bytes())?;
         self.out.into_inner()?.sync_all()
     }
 
@@ -103,7 +131,7 @@ impl<'a> Journal<'a> {
         let (content, sum) = bytes.split_last_chunk::<8>()?;
         let mut expected = Sum::new();
         expected.add(content);
-        if expected.0 != u64::from_be_bytes(*sum) {
+        if expected.end() != u64::from_be_bytes(*sum) {
             return None;
         }
         let mut rest = content.strip_prefix(MAGIC)?;
@@ -128,33 +156,22 @@ impl<'a> Journal<'a> {
         })
     }
 
-    pub fn apply(&self, queues: &File, index: &File) -> io::Result<()> {
+    pub fn apply(&self, index: &File) -> io::Result<()> {
         let mut rest = self.patches;
-        while let Some((target, place, bytes)) = take_patch(&mut rest) {
-            let file = match target {
-                Target::Queues => queues,
-                Target::Index => index,
-            };
-            file.write_all_at(bytes, place)?;
+        while let Some((place, bytes)) = take_patch(&mut rest) {
+            index.write_all_at(bytes, place)?;
         }
-        queues.sync_data()?;
         index.sync_data()
     }
 }
 
-fn take_patch<'a>(rest: &mut &'a [u8]) -> Option<(Target, u64, &'a [u8])> {
-    let (&kind, after) = rest.split_first()?;
-    let target = match kind {
-        1 => Target::Queues,
-        2 => Target::Index,
-        _ => return None,
-    };
-    *rest = after;
+fn take_patch<'a>(rest: &mut &'a [u8]) -> Option<(u64, &'a [u8])> {
+    *rest = rest.strip_prefix(&[PATCH])?;
     let place = take_number(rest)?;
     let length = usize::try_from(take_number(rest)?).ok()?;
     let (bytes, after) = rest.split_at_checked(length)?;
     *rest = after;
-    Some((target, place, bytes))
+    Some((place, bytes))
 }
 
 fn take_number(rest: &mut &[u8]) -> Option<u64> {

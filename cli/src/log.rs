@@ -1,38 +1,50 @@
-//! The commit log of a store folder, or one segment file, as one run of bytes.
+//! The commit log of a store folder, or one segment file, as runs of bytes.
 
-use crate::args::{number, Args};
+mod before;
+mod on;
+mod segments;
+
+pub use on::{sentence_on, Cause, Met, Place, Skipped};
+pub use segments::{numbered_name, LAST_END};
+
+use crate::args::Args;
 use crate::failure::{fault, usage, At, Failure};
 use crate::map::{page_size, View};
 use crate::note;
-use crate::text::{grouped, shown_path};
-use std::fs::{self, File};
-use std::io::Read;
+use crate::text::{counted, grouped};
+use segments::{Run, Runs, Segment, SEGMENT_SIZES};
+use std::io::{self, Read};
 use std::ops::Deref;
 use std::path::{Path, PathBuf};
 use swistopal::{read_record, Answer, Entry, LogGeometry, LogPosition};
 
-pub const SEGMENT_SIZES: (u64, u64) = (1024, 1 << 30);
-const LAST_END: u64 = 1 << 40;
 /// Segments whose size is no multiple of the page size cannot lie side by side as mappings; up to so many bytes are copied.
 const COPY_LIMIT: u64 = 1 << 28;
 
-/// Names of segments and of queue files: 20 digits.
-pub fn numbered_name(name: &str) -> Option<u64> {
-    if name.len() == 20 {
-        number(name)
-    } else {
-        None
-    }
+pub struct Log {
+    /// The first stretch is the log as far as its files are without a fault; the others stand behind one.
+    stretches: Vec<Stretch>,
+    /// Of the first stretch.
+    pub geometry: LogGeometry,
+    /// Of the first stretch.
+    pub segments: u64,
+    end_given: bool,
+    /// Files of a wrong length, missing ones, those that cannot be read: what the log lacks though what is lent may be sound.
+    pub faults: Vec<String>,
+    /// What is not read because of a limit of the archive, and may be sound.
+    pub limits: Vec<String>,
+    /// Where the part of the log begins that is above the limit of positions.
+    above: Option<LogPosition>,
 }
 
-pub struct Log {
+/// Segments that follow each other, lent to the archive with their own first position.
+struct Stretch {
     bytes: Bytes,
-    pub geometry: LogGeometry,
-    pub segments: u64,
+    geometry: LogGeometry,
+    /// Where the files end, or what `--end` says.
     end: LogPosition,
-    end_given: bool,
-    /// Files of a wrong length, missing ones: what the log lacks though what is lent may be sound.
-    pub faults: Vec<String>,
+    /// Its files, if they are mapped.
+    paths: Vec<PathBuf>,
 }
 
 enum Bytes {
@@ -72,69 +84,134 @@ pub enum Why {
     Stop,
 }
 
-struct Segment {
-    path: PathBuf,
-    first: u64,
-    length: u64,
-}
-
 impl Log {
-    /// Of a store folder, or of one file. A file whose name is not a position starts at 0.
+    /// Of a store folder, or of one file.
     pub fn open(args: &Args) -> Result<Log, Failure> {
         let place = args.place();
         let asked_size = args.number_within("--segment-size", SEGMENT_SIZES.0, SEGMENT_SIZES.1)?;
-        let segments = if place.is_file() {
-            let name = place.file_name().and_then(|name| name.to_str());
-            let first = name.and_then(numbered_name).unwrap_or(0);
-            vec![segment(place.to_path_buf(), first)?]
+        let (named, size) = if place.is_file() {
+            let (named, size) = segments::one(place, asked_size)?;
+            (vec![named], size)
         } else {
-            found_segments(place)?
+            let named = segments::found(place)?;
+            let size = segments::size(&named, asked_size)?;
+            (named, size)
         };
-        let mut faults = Vec::new();
-        let size = segment_size(&segments, asked_size)?;
-        let taken = contiguous(&segments, size, &mut faults)?;
-        let bytes = lend(taken, size)?;
-        let first = taken[0].first;
-        let last = &taken[taken.len() - 1];
-        let mut log = Log {
-            bytes,
-            geometry: LogGeometry {
-                segment_size: size,
-                first_position: LogPosition(first),
-            },
-            segments: taken.len() as u64,
-            end: LogPosition(last.first + last.length),
+        let runs = Runs::of(named, size);
+        let segments = runs.runs[0].segments.len() as u64;
+        let stretches = lend(runs.runs, size)?;
+        let log = Log {
+            geometry: stretches[0].geometry,
+            stretches,
+            segments,
             end_given: false,
-            faults,
+            faults: runs.faults,
+            limits: runs.limits,
+            above: runs.above.map(LogPosition),
         };
-        if let Some(end) = args.number("--end")? {
-            if !(first..=log.end.0).contains(&end) {
-                let files_end = log.end.0;
-                return usage(format!(
-                    "--end {end}: the log's files go from {first} to {files_end}"
-                ));
-            }
-            (log.end, log.end_given) = (LogPosition(end), true);
+        log.with_end(args)
+    }
+
+    /// Of standard input: one segment, or several of a given size side by side.
+    pub fn of_input(args: &Args) -> Result<Log, Failure> {
+        let asked_size = args.number_within("--segment-size", SEGMENT_SIZES.0, SEGMENT_SIZES.1)?;
+        let mut bytes = Vec::new();
+        let mut input = io::stdin().lock().take(SEGMENT_SIZES.1 + 1);
+        let read = input.read_to_end(&mut bytes);
+        read.at("read", Path::new("standard input"))?;
+        let length = bytes.len() as u64;
+        let size = asked_size.unwrap_or(length);
+        if length > SEGMENT_SIZES.1 || size < SEGMENT_SIZES.0 {
+            return fault(format!(
+                "standard input: {} bytes are no segment; one has {} to {}, and --segment-size tells how many",
+                grouped(length),
+                grouped(SEGMENT_SIZES.0),
+                grouped(SEGMENT_SIZES.1)
+            ));
         }
-        Ok(log)
+        let segments = length.div_ceil(size).max(1);
+        bytes.resize((segments * size) as usize, 0);
+        let geometry = LogGeometry {
+            segment_size: size,
+            first_position: LogPosition(segments::first_by_record(&bytes, size)),
+        };
+        let end = LogPosition(geometry.first_position.0 + length);
+        let log = Log {
+            stretches: vec![Stretch {
+                bytes: Bytes::Copied(bytes),
+                geometry,
+                end,
+                paths: Vec::new(),
+            }],
+            geometry,
+            segments,
+            end_given: false,
+            faults: Vec::new(),
+            limits: Vec::new(),
+            above: None,
+        };
+        log.with_end(args)
+    }
+
+    fn with_end(mut self, args: &Args) -> Result<Log, Failure> {
+        if let Some(end) = args.number("--end")? {
+            self.cut(end)?;
+        }
+        Ok(self)
+    }
+
+    fn cut(&mut self, end: u64) -> Result<(), Failure> {
+        let (first, files_end) = (self.first().0, self.files_end().0);
+        if !(first..=files_end).contains(&end) {
+            return usage(format!(
+                "--end {end}: the log's files go from {first} to {files_end}"
+            ));
+        }
+        let kept = self.stretch_number(LogPosition(end.saturating_sub(1)));
+        self.stretches.truncate(kept + 1);
+        let last = &mut self.stretches[kept];
+        last.end.0 = last.end.0.min(end);
+        self.end_given = true;
+        Ok(())
     }
 
     pub fn bytes(&self) -> &[u8] {
-        &self.bytes
+        &self.stretches[0].bytes
     }
 
     pub fn first(&self) -> LogPosition {
         self.geometry.first_position
     }
 
-    /// Where the files end, or what `--end` says.
+    /// Where the first stretch ends: its files, or what `--end` says.
     pub fn end(&self) -> LogPosition {
-        self.end
+        self.stretches[0].end
     }
 
-    /// What stands at a position.
+    /// Where the last stretch ends.
+    pub fn files_end(&self) -> LogPosition {
+        self.stretches[self.stretches.len() - 1].end
+    }
+
+    /// Whether a position is in a part of the log that is above the limit of positions.
+    pub fn is_above_limit(&self, position: LogPosition) -> bool {
+        self.above.is_some_and(|above| above <= position)
+    }
+
+    /// What stands at a position, in whichever stretch.
     pub fn entry(&self, position: LogPosition) -> Result<Entry<'_>, Answer> {
-        read_record(&self.bytes, self.geometry, position, self.end)
+        self.stretch_before(position).entry(position)
+    }
+
+    /// The last stretch that starts at a position or before it.
+    fn stretch_before(&self, position: LogPosition) -> &Stretch {
+        &self.stretches[self.stretch_number(position)]
+    }
+
+    fn stretch_number(&self, position: LogPosition) -> usize {
+        let stretches = &self.stretches;
+        let behind = stretches.partition_point(|stretch| stretch.first() <= position);
+        behind.saturating_sub(1)
     }
 
     /// Reads from a position to the first stop; `each` sees what is read and goes on by answering true.
@@ -143,9 +220,10 @@ impl Log {
         from: LogPosition,
         mut each: impl FnMut(LogPosition, &Entry) -> Result<bool, Failure>,
     ) -> Result<End, Failure> {
+        let stretch = &self.stretches[0];
         let mut position = from;
         loop {
-            match self.entry(position) {
+            match stretch.entry(position) {
                 Ok(entry) => {
                     if !each(position, &entry)? {
                         return Ok(End::stopped(position, Answer::BudgetSpent));
@@ -158,12 +236,13 @@ impl Log {
     }
 
     fn end_at(&self, position: LogPosition, answer: Answer) -> End {
-        let (answer, why) = if position == self.end {
+        let stretch = &self.stretches[0];
+        let (answer, why) = if position == stretch.end {
             (Answer::Done, Why::Bytes)
-        } else if self.end_given || !self.zeros_at(position) {
+        } else if self.end_given || !stretch.zeros_at(position) {
             (answer, Why::Stop)
         } else {
-            match self.data_after(position) {
+            match stretch.data_after(position) {
                 None => (Answer::Done, Why::Zeros),
                 Some(again) => (answer, Why::Gap(again)),
             }
@@ -175,6 +254,30 @@ impl Log {
         }
     }
 
+    /// Total and magic are zero, as in a part of a segment that was never written.
+    pub fn zeros_at(&self, position: LogPosition) -> bool {
+        self.stretch_before(position).zeros_at(position)
+    }
+}
+
+impl Stretch {
+    fn first(&self) -> LogPosition {
+        self.geometry.first_position
+    }
+
+    fn has(&self, position: LogPosition) -> bool {
+        (self.first()..self.end).contains(&position)
+    }
+
+    fn entry(&self, position: LogPosition) -> Result<Entry<'_>, Answer> {
+        // The archive takes no log without bytes.
+        if self.bytes.is_empty() {
+            return Err(Answer::NotReadable);
+        }
+        read_record(&self.bytes, self.geometry, position, self.end)
+    }
+
+    /// The bytes from a position to the end.
     fn rest(&self, position: LogPosition) -> &[u8] {
         let first = self.first().0;
         match (position.0.checked_sub(first), self.end.0 - first) {
@@ -183,12 +286,12 @@ impl Log {
         }
     }
 
-    /// Total and magic are zero, as in a part of a segment that was never written.
-    pub fn zeros_at(&self, position: LogPosition) -> bool {
+    fn zeros_at(&self, position: LogPosition) -> bool {
         let rest = self.rest(position);
         !rest.is_empty() && rest.iter().take(8).all(|byte| *byte == 0)
     }
 
+    /// The first byte from a position on that is not zero.
     fn data_after(&self, position: LogPosition) -> Option<LogPosition> {
         let rest = self.rest(position);
         let mut from = 0;
@@ -244,163 +347,57 @@ pub fn tell(faults: &[String]) {
     }
 }
 
-fn segment(path: PathBuf, first: u64) -> Result<Segment, Failure> {
-    let length = fs::metadata(&path).at("read", &path)?.len();
-    Ok(Segment {
-        path,
-        first,
-        length,
-    })
-}
-
-fn found_segments(store: &Path) -> Result<Vec<Segment>, Failure> {
-    if !store.exists() {
-        return usage(format!("{}: there is no such folder", shown_path(store)));
-    }
-    let folder = store.join("commitlog");
-    if !folder.is_dir() {
-        return usage(format!(
-            "{}: no folder commitlog in it; a store has commitlog, consumequeue and index",
-            shown_path(store)
-        ));
-    }
-    let mut segments = Vec::new();
-    for entry in fs::read_dir(&folder).at("read", &folder)? {
-        let entry = entry.at("read", &folder)?;
-        let first = entry.file_name().to_str().and_then(numbered_name);
-        if let Some(first) = first {
-            segments.push(segment(entry.path(), first)?);
-        }
-    }
-    if segments.is_empty() {
+fn lend(runs: Vec<Run>, size: u64) -> Result<Vec<Stretch>, Failure> {
+    let copied = !size.is_multiple_of(page_size());
+    let segments: u64 = runs.iter().map(|run| run.segments.len() as u64).sum();
+    if copied && segments * size > COPY_LIMIT {
         return fault(format!(
-            "{}: no segment in it; their names are positions of 20 digits",
-            shown_path(folder)
-        ));
-    }
-    segments.sort_by_key(|segment| segment.first);
-    Ok(segments)
-}
-
-fn segment_size(segments: &[Segment], asked: Option<u64>) -> Result<u64, Failure> {
-    let size = asked.unwrap_or_else(|| size_by_files(segments));
-    let Segment {
-        path,
-        first,
-        length,
-    } = &segments[0];
-    let path = shown_path(path);
-    if !size_permitted(size) {
-        let which = if size == *length {
-            ""
-        } else {
-            " up to the next file"
-        };
-        return fault(format!(
-            "{path}: {} bytes{which} are no segment; one has {} to {}, and --segment-size tells how many",
-            grouped(size),
-            grouped(SEGMENT_SIZES.0),
-            grouped(SEGMENT_SIZES.1)
-        ));
-    }
-    if !first.is_multiple_of(size) {
-        return fault(format!(
-            "{path}: it starts at {first}, which is no multiple of the segment size {size}; \
-             if the file is cut short, --segment-size tells its whole length"
-        ));
-    }
-    Ok(size)
-}
-
-fn size_permitted(size: u64) -> bool {
-    (SEGMENT_SIZES.0..=SEGMENT_SIZES.1).contains(&size)
-}
-
-/// The longest file's length, if every file starts at a multiple of it: others may be missing or cut short. Otherwise the
-/// length that the first two files share, or the distance of their names.
-fn size_by_files(segments: &[Segment]) -> u64 {
-    let longest = segments.iter().map(|segment| segment.length).max();
-    let fits = |size: &u64| {
-        let mut starts = segments.iter().map(|segment| segment.first);
-        size_permitted(*size) && starts.all(|start| start.is_multiple_of(*size))
-    };
-    match (longest.filter(fits), segments) {
-        (Some(longest), _) => longest,
-        (None, [first, second, ..]) if second.length != first.length => second.first - first.first,
-        (None, _) => segments[0].length,
-    }
-}
-
-/// The segments from the first one on that follow each other without a hole; the last one may be short.
-fn contiguous<'s>(
-    segments: &'s [Segment],
-    size: u64,
-    faults: &mut Vec<String>,
-) -> Result<&'s [Segment], Failure> {
-    let mut taken = 0;
-    for segment in segments {
-        let path = shown_path(&segment.path);
-        let expected = segments[0].first.saturating_add(taken as u64 * size);
-        if segment.first != expected {
-            faults.push(format!(
-                "{path}: the segment at {expected} is missing before it; the log is read up to there"
-            ));
-            break;
-        }
-        if segment.length > size {
-            let sentence = format!(
-                "{path}: {} bytes, though a segment has {}",
-                grouped(segment.length),
-                grouped(size)
-            );
-            if taken == 0 {
-                return fault(sentence);
-            }
-            faults.push(sentence + "; the log is read up to its start");
-            break;
-        }
-        if expected.saturating_add(size) > LAST_END {
-            return fault(format!(
-                "{path}: it ends above 2^40, where a log ends at most"
-            ));
-        }
-        taken += 1;
-        if segment.length < size {
-            faults.push(format!(
-                "{path}: {} bytes of {}; it is cut short, and the log is read up to there",
-                grouped(segment.length),
-                grouped(size)
-            ));
-            break;
-        }
-    }
-    Ok(&segments[..taken])
-}
-
-fn lend(segments: &[Segment], size: u64) -> Result<Bytes, Failure> {
-    let mut files = Vec::new();
-    for segment in segments {
-        // Reading alone: the originals are never touched.
-        let file = File::open(&segment.path).at("open", &segment.path)?;
-        files.push((file, segment.length));
-    }
-    if size.is_multiple_of(page_size()) {
-        let view = View::of_files(&files, size).at("map", &segments[0].path)?;
-        return Ok(Bytes::Mapped(view));
-    }
-    let total = size * segments.len() as u64;
-    if total > COPY_LIMIT {
-        return fault(format!(
-            "{}: segments of {size} bytes, no multiple of the page size {}, are read up to {} bytes in all",
-            shown_path(&segments[0].path),
+            "segments of {size} bytes, no multiple of the page size {}, are read up to {} bytes in all; these are {}",
             page_size(),
-            grouped(COPY_LIMIT)
+            grouped(COPY_LIMIT),
+            counted(segments, "segment", "segments")
         ));
     }
-    let mut bytes = Vec::with_capacity(total as usize);
-    for ((mut file, _), segment) in files.into_iter().zip(segments) {
-        file.read_to_end(&mut bytes).at("read", &segment.path)?;
+    let mut stretches = Vec::new();
+    for Run { first, segments } in runs {
+        let last = segments.last();
+        let end = last.map_or(first, |last| last.first + last.length.min(size));
+        let (bytes, paths) = if segments.is_empty() || copied {
+            (Bytes::Copied(copy(segments, size)?), Vec::new())
+        } else {
+            let paths = segments.iter().map(|segment| segment.path.clone());
+            let paths = paths.collect();
+            (Bytes::Mapped(map(segments, size)?), paths)
+        };
+        stretches.push(Stretch {
+            bytes,
+            paths,
+            geometry: LogGeometry {
+                segment_size: size,
+                first_position: LogPosition(first),
+            },
+            end: LogPosition(end),
+        });
     }
-    bytes.resize(total as usize, 0);
-    Ok(Bytes::Copied(bytes))
+    Ok(stretches)
+}
+
+fn map(segments: Vec<Segment>, size: u64) -> Result<View, Failure> {
+    let path = segments[0].path.clone();
+    let files = segments.into_iter();
+    let files: Vec<_> = files
+        .map(|segment| (segment.file, segment.length))
+        .collect();
+    View::of_files(&files, size).at("map", &path)
+}
+
+fn copy(segments: Vec<Segment>, size: u64) -> Result<Vec<u8>, Failure> {
+    let mut bytes = Vec::with_capacity(segments.len() * size as usize);
+    for segment in segments {
+        let end = bytes.len() + size as usize;
+        let read = segment.file.take(size).read_to_end(&mut bytes);
+        read.at("read", &segment.path)?;
+        bytes.resize(end, 0);
+    }
+    Ok(bytes)
 }

@@ -3,14 +3,19 @@
 //! The archive does all reading, rebuilding and searching. This program finds, maps and lends files.
 
 mod args;
+mod broker;
 mod check;
+mod crc;
 mod demo;
 mod failure;
+mod files;
+mod form;
 mod help;
 mod index;
 mod journal;
 mod list;
 mod log;
+mod loss;
 mod map;
 mod medium;
 mod meter;
@@ -20,9 +25,12 @@ mod query;
 mod queue;
 mod queues;
 mod rebuild;
+mod record;
+mod shell;
 mod show;
 mod text;
 mod time;
+mod wanted;
 mod work;
 
 use args::Args;
@@ -41,7 +49,7 @@ struct Command {
     run: fn(&Args) -> Result<Outcome, Failure>,
 }
 
-const COMMANDS: [Command; 6] = [
+const COMMANDS: [Command; 7] = [
     Command {
         name: "demo",
         help: help::DEMO,
@@ -52,15 +60,30 @@ const COMMANDS: [Command; 6] = [
     Command {
         name: "list",
         help: help::LIST,
-        flags: &["--json", "--long"],
-        values: &["--from", "--limit", "--segment-size", "--end"],
+        flags: &["--json", "--jsonl", "--long", "--resync"],
+        values: &[
+            "--from",
+            "--limit",
+            "--topic",
+            "--from-time",
+            "--to-time",
+            "--segment-size",
+            "--end",
+        ],
         run: list::run,
     },
     Command {
         name: "rebuild",
         help: help::REBUILD,
-        flags: &["--json", "--force", "--restart"],
+        flags: &[
+            "--json",
+            "--force",
+            "--shorten",
+            "--restart",
+            "--after-crash",
+        ],
         values: &[
+            "--into",
             "--queues",
             "--budget",
             "--batch",
@@ -75,10 +98,11 @@ const COMMANDS: [Command; 6] = [
     Command {
         name: "query",
         help: help::QUERY,
-        flags: &["--json", "--body"],
+        flags: &["--json", "--jsonl", "--body", "--scan"],
         values: &[
             "--topic",
             "--key",
+            "--unique-key",
             "--from",
             "--to",
             "--limit",
@@ -91,7 +115,7 @@ const COMMANDS: [Command; 6] = [
     Command {
         name: "queue",
         help: help::QUEUE,
-        flags: &["--json", "--body"],
+        flags: &["--json", "--jsonl", "--body"],
         values: &[
             "--topic",
             "--queue",
@@ -104,10 +128,17 @@ const COMMANDS: [Command; 6] = [
         run: queue::run,
     },
     Command {
+        name: "show",
+        help: help::SHOW,
+        flags: &["--json", "--raw"],
+        values: &["--segment-size", "--end"],
+        run: show::run,
+    },
+    Command {
         name: "check",
         help: help::CHECK,
-        flags: &["--json"],
-        values: &["--queues", "--slots", "--segment-size", "--end"],
+        flags: &["--json", "--jsonl", "--bodies"],
+        values: &["--queues", "--slots", "--items", "--segment-size", "--end"],
         run: check::run,
     },
 ];
@@ -131,6 +162,7 @@ fn print(text: &str) -> Result<Outcome, Failure> {
 }
 
 fn main() -> ExitCode {
+    medium::ignore_size_signal();
     match run() {
         Ok(Outcome::Sound) | Err(Failure::Unread) => ExitCode::SUCCESS,
         Ok(Outcome::Fault) => ExitCode::from(1),
@@ -167,7 +199,8 @@ fn run() -> Result<Outcome, Failure> {
     if rest.iter().any(|word| word == "--help" || word == "-h") {
         return print(command.help);
     }
-    let args = Args::parse(rest.into_iter(), command.flags, command.values);
+    let second = (command.name == "show").then_some("position");
+    let args = Args::parse(rest.into_iter(), command.flags, command.values, second);
     let args = args.map_err(|failure| match failure {
         Failure::Usage(sentence) => Failure::Usage(format!(
             "{sentence}; swistopal {} --help says more",
@@ -175,6 +208,10 @@ fn run() -> Result<Outcome, Failure> {
         )),
         other => other,
     })?;
+    // A rebuild refuses by itself, and the demo makes a new folder.
+    if !["demo", "rebuild"].contains(&command.name) {
+        broker::warn(args.place());
+    }
     (command.run)(&args)
 }
 

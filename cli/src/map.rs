@@ -1,4 +1,5 @@
-//! Files as memory. Everything `unsafe` of the tool is here and in `medium`, which tells of bytes that cannot be read.
+//! Files as memory, who has locked one, how wide the terminal is. Everything `unsafe` of the tool is here and in `medium`, which tells of bytes
+//! that cannot be read.
 //!
 //! Every mapping is private: no byte of a file is ever changed through one. A read-only mapping is also made from a file
 //! that was opened for reading alone.
@@ -11,11 +12,12 @@
 compile_error!("the constants and types of mmap and sigaction are those of 64-bit Linux");
 
 use crate::medium::Watch;
-use std::ffi::{c_int, c_void};
+use std::ffi::{c_int, c_uint, c_ulong, c_void};
 use std::fs::File;
 use std::io;
-use std::ops::{Deref, DerefMut};
+use std::ops::{Deref, DerefMut, Range};
 use std::os::fd::AsRawFd;
+use std::os::unix::fs::FileExt;
 use std::ptr;
 
 extern "C" {
@@ -29,7 +31,27 @@ extern "C" {
     ) -> *mut c_void;
     fn munmap(address: *mut c_void, length: usize) -> c_int;
     fn getpagesize() -> c_int;
+    fn sync_file_range(file: c_int, offset: i64, length: i64, flags: c_uint) -> c_int;
+    fn fcntl(file: c_int, command: c_int, ...) -> c_int;
+    fn ioctl(file: c_int, request: c_ulong, ...) -> c_int;
 }
+
+/// `struct flock`.
+#[repr(C)]
+struct FileLock {
+    kind: i16,
+    whence: i16,
+    start: i64,
+    length: i64,
+    process: i32,
+}
+
+const SYNC_FILE_RANGE_WRITE: c_uint = 2;
+const TIOCGWINSZ: c_ulong = 0x5413;
+const STANDARD_ERROR: c_int = 2;
+const F_GETLK: c_int = 5;
+const F_WRLCK: i16 = 1;
+const F_UNLCK: i16 = 2;
 
 const PROT_NONE: c_int = 0;
 const PROT_READ: c_int = 1;
@@ -39,11 +61,59 @@ const MAP_FIXED: c_int = 0x10;
 const MAP_ANONYMOUS: c_int = 0x20;
 const MAP_NORESERVE: c_int = 0x4000;
 const NO_FILE: c_int = -1;
+/// So much memory a file that is taken over needs at most.
+const LOADED_AT_ONCE: u64 = 1 << 24;
 
 /// The size that pieces lying side by side must be a multiple of.
 pub fn page_size() -> u64 {
     // SAFETY: it takes nothing and always answers.
     unsafe { getpagesize() as u64 }
+}
+
+/// Lets the disk begin with a file's bytes. Whether it has them only a sync tells.
+pub fn begin_to_sync(file: &File, bytes: Range<u64>) {
+    let (offset, length) = (bytes.start as i64, (bytes.end - bytes.start) as i64);
+    // SAFETY: it takes numbers alone. Where it cannot be done the sync does all of it.
+    unsafe { sync_file_range(file.as_raw_fd(), offset, length, SYNC_FILE_RANGE_WRITE) };
+}
+
+/// How wide the terminal on standard error is, if it says so.
+pub fn columns() -> Option<usize> {
+    let mut size = [0u16; 4];
+    // SAFETY: rows, columns and two sizes in pixels are written to what is lent.
+    let failed = unsafe { ioctl(STANDARD_ERROR, TIOCGWINSZ, &mut size) };
+    let [_, columns, ..] = size;
+    (failed == 0 && columns > 0).then_some(columns.into())
+}
+
+/// The process that holds a POSIX lock on a file's first byte; 0 or less if it cannot be named.
+pub fn lock_holder(file: &File) -> io::Result<Option<i32>> {
+    let mut lock = FileLock {
+        kind: F_WRLCK,
+        whence: 0,
+        start: 0,
+        length: 1,
+        process: 0,
+    };
+    // SAFETY: the lock is lent for the call, and asking changes nothing else.
+    let failed = unsafe { fcntl(file.as_raw_fd(), F_GETLK, &mut lock) };
+    if failed != 0 {
+        return Err(io::Error::last_os_error());
+    }
+    Ok((lock.kind != F_UNLCK).then_some(lock.process))
+}
+
+/// Has the processor bring bytes near that are read soon. None of them is touched, so one that the medium does not give does
+/// not end the tool here.
+pub fn bring_near(bytes: &[u8]) {
+    #[cfg(target_arch = "x86_64")]
+    for line in bytes.chunks(64) {
+        use std::arch::x86_64::{_mm_prefetch, _MM_HINT_T0};
+        // SAFETY: it is a hint, which reads and writes nothing.
+        unsafe { _mm_prefetch::<_MM_HINT_T0>(line.as_ptr().cast()) };
+    }
+    #[cfg(not(target_arch = "x86_64"))]
+    let _ = bytes;
 }
 
 struct Mapping {
@@ -75,18 +145,6 @@ impl Mapping {
         })
     }
 
-    /// Of a file's first bytes. A fault of the medium in them is told.
-    fn of_file(
-        file: &File,
-        length: usize,
-        protection: c_int,
-        doing: &'static str,
-    ) -> io::Result<Mapping> {
-        let mut mapping = Mapping::new(length, protection, 0, file.as_raw_fd())?;
-        mapping.watch(length, [file].into_iter(), doing)?;
-        Ok(mapping)
-    }
-
     fn watch<'f>(
         &mut self,
         size: usize,
@@ -99,8 +157,14 @@ impl Mapping {
         Ok(())
     }
 
-    /// Puts a file's start, or zeros without a file, at a place of this range.
-    fn place(&mut self, place: usize, length: usize, file: Option<&File>) -> io::Result<()> {
+    /// Puts a file's bytes from an offset on, or zeros without a file, at a place of this range.
+    fn place(
+        &mut self,
+        place: usize,
+        length: usize,
+        protection: c_int,
+        file: Option<(&File, usize)>,
+    ) -> io::Result<()> {
         assert!(place
             .checked_add(length)
             .is_some_and(|end| end <= self.length));
@@ -108,19 +172,19 @@ impl Mapping {
             return Ok(());
         }
         let flags = MAP_PRIVATE | MAP_NORESERVE | MAP_FIXED;
-        let (flags, file) = match file {
-            Some(file) => (flags, file.as_raw_fd()),
-            None => (flags | MAP_ANONYMOUS, NO_FILE),
+        let (flags, file, offset) = match file {
+            Some((file, offset)) => (flags, file.as_raw_fd(), offset as i64),
+            None => (flags | MAP_ANONYMOUS, NO_FILE, 0),
         };
         // SAFETY: the range lies within this mapping, which is borrowed alone: what is replaced is not lent.
         let at = unsafe {
             mmap(
                 self.start.add(place).cast(),
                 length,
-                PROT_READ,
+                protection,
                 flags,
                 file,
-                0,
+                offset,
             )
         };
         if at as isize == -1 {
@@ -147,7 +211,9 @@ pub struct View(Mapping);
 impl View {
     /// A file's first bytes.
     pub fn of_file(file: &File, length: usize) -> io::Result<View> {
-        Mapping::of_file(file, length, PROT_READ, "read").map(View)
+        let mut mapping = Mapping::new(length, PROT_READ, 0, file.as_raw_fd())?;
+        mapping.watch(length, [file].into_iter(), "read")?;
+        Ok(View(mapping))
     }
 
     /// Files side by side as one run of bytes, `size` for each: a multiple of the page size. A shorter file is followed by
@@ -161,8 +227,9 @@ impl View {
         for (number, (file, length)) in files.iter().enumerate() {
             // The kernel fills a file's last page with zeros; whole pages past it would not be readable.
             let present = (*length as usize).min(size).next_multiple_of(page);
-            mapping.place(number * size, present, Some(file))?;
-            mapping.place(number * size + present, size - present, None)?;
+            let (place, rest) = (number * size, size - present);
+            mapping.place(place, present, PROT_READ, Some((file, 0)))?;
+            mapping.place(place + present, rest, PROT_READ, None)?;
         }
         mapping.watch(size, files.iter().map(|(file, _)| file), "read")?;
         Ok(View(mapping))
@@ -182,9 +249,36 @@ impl Deref for View {
 pub struct Draft(Mapping);
 
 impl Draft {
-    /// A file's first bytes; a page is copied when it is first written.
-    pub fn of_file(file: &File, length: usize) -> io::Result<Draft> {
-        Mapping::of_file(file, length, PROT_READ | PROT_WRITE, "read or written").map(Draft)
+    /// Zeros in the place of a file's bytes. `load` brings in those that the file has already.
+    pub fn for_file(file: &File, length: usize) -> io::Result<Draft> {
+        let mut draft = Draft::of_zeros(length)?;
+        let watched = draft.0.watch(length, [file].into_iter(), "read or written");
+        watched.map(|()| draft)
+    }
+
+    /// Takes the file's bytes over.
+    pub fn load(&mut self, file: &File, bytes: Range<u64>) -> io::Result<()> {
+        let mut from = bytes.start;
+        while from < bytes.end {
+            let to = bytes.end.min(from + LOADED_AT_ONCE);
+            file.read_exact_at(&mut self[from as usize..to as usize], from)?;
+            self.settle(file, from..to)?;
+            from = to;
+        }
+        Ok(())
+    }
+
+    /// Gives back the memory of bytes that the file has as well; its pages stand in their place. The last one stays, as
+    /// it may go on.
+    pub fn settle(&mut self, file: &File, bytes: Range<u64>) -> io::Result<()> {
+        let page = page_size();
+        let (from, to) = (bytes.start / page * page, bytes.end / page * page);
+        if to <= from {
+            return Ok(());
+        }
+        let (from, length) = (from as usize, (to - from) as usize);
+        let (protection, file) = (PROT_READ | PROT_WRITE, Some((file, from)));
+        self.0.place(from, length, protection, file)
     }
 
     /// Zeros; a page takes memory when it is first written.
@@ -282,7 +376,8 @@ mod tests {
     fn a_byte_that_cannot_be_written() {
         let (folder, ended) = ending("a_byte_that_cannot_be_written", |folder| {
             let file = file(&folder.join("work"), 4);
-            let mut draft = Draft::of_file(&file, 4 * page_size() as usize).unwrap();
+            let mut draft = Draft::for_file(&file, 4 * page_size() as usize).unwrap();
+            draft.load(&file, 0..2 * page_size()).unwrap();
             file.set_len(0).unwrap();
             draft[black_box(0)] = 1;
         });

@@ -1,22 +1,27 @@
-//! Mapped bytes that cannot be read: a sector is worn, or the file was cut since. The kernel sends SIGBUS when one is
-//! touched; the handler here says which byte of which file it is and ends the tool with exit status 1.
+//! Mapped bytes that cannot be read: a sector is worn, the file was cut since, or a file system in memory is full and has no
+//! page for a hole. The kernel sends SIGBUS when one is touched; the handler here says which byte of which file it is and
+//! ends the tool with exit status 1.
 //!
 //! Safety. The handler may run between any two instructions: it reads the table and what stands in it, which nobody changes,
-//! and calls `write` and `_exit` alone. A file's place stands in the table as long as its `Watch` lives, and the tool has one
+//! and calls `open`, `pread`, `write` and `_exit` alone. A file's place stands in the table as long as its `Watch` lives, and the tool has one
 //! thread, so no `Watch` ends while the handler runs.
 
 use crate::text::shown_path;
-use std::ffi::{c_int, c_void};
+use std::ffi::{c_char, c_int, c_void, CString};
 use std::fs::{self, File};
 use std::io;
 use std::ops::Range;
 use std::os::fd::AsRawFd;
+use std::os::unix::ffi::OsStringExt;
 use std::ptr;
 use std::sync::atomic::{AtomicPtr, Ordering};
 use std::sync::Once;
 
 extern "C" {
     fn sigaction(signal: c_int, action: *const Action, before: *mut Action) -> c_int;
+    fn signal(signal: c_int, handler: usize) -> usize;
+    fn open(path: *const c_char, flags: c_int, ...) -> c_int;
+    fn pread(file: c_int, bytes: *mut c_void, length: usize, offset: i64) -> isize;
     fn write(file: c_int, bytes: *const c_void, length: usize) -> isize;
     fn _exit(status: c_int) -> !;
 }
@@ -40,6 +45,9 @@ struct Information {
 }
 
 const SIGBUS: c_int = 7;
+const SIGXFSZ: c_int = 25;
+const SIG_IGN: usize = 1;
+const O_RDONLY: c_int = 0;
 const SA_SIGINFO: c_int = 4;
 const SA_RESETHAND: c_int = c_int::MIN;
 const STANDARD_ERROR: c_int = 2;
@@ -53,8 +61,14 @@ struct Place {
     bytes: Range<usize>,
     /// Of each file.
     size: usize,
-    names: Vec<String>,
+    files: Vec<Name>,
     doing: &'static str,
+}
+
+/// A file's path, as it is shown and as it is opened.
+struct Name {
+    shown: String,
+    path: CString,
 }
 
 /// Has faults of mapped files told as long as it lives.
@@ -73,7 +87,7 @@ impl Watch {
         let place = Box::into_raw(Box::new(Place {
             bytes,
             size,
-            names: files.map(name).collect(),
+            files: files.map(Name::of).collect(),
             doing,
         }));
         let free = TABLE.iter().find(|entry| {
@@ -97,10 +111,34 @@ impl Drop for Watch {
     }
 }
 
-/// An open file's path.
-fn name(file: &File) -> String {
-    let link = format!("/proc/self/fd/{}", file.as_raw_fd());
-    fs::read_link(link).map_or_else(|_| String::from("a mapped file"), shown_path)
+impl Name {
+    fn of(file: &File) -> Name {
+        let link = format!("/proc/self/fd/{}", file.as_raw_fd());
+        let path = fs::read_link(link).unwrap_or_default();
+        Name {
+            shown: match path.as_os_str().is_empty() {
+                true => String::from("a mapped file"),
+                false => shown_path(&path),
+            },
+            path: CString::new(path.into_os_string().into_vec()).unwrap_or_default(),
+        }
+    }
+
+    /// Whether a byte can be read without being mapped.
+    fn readable(&self, byte: usize) -> bool {
+        let mut read = 0u8;
+        // SAFETY: the path ends with a zero, and one byte is lent.
+        unsafe {
+            let file = open(self.path.as_ptr(), O_RDONLY);
+            file >= 0 && pread(file, (&raw mut read).cast(), 1, byte as i64) == 1
+        }
+    }
+}
+
+/// A file that grows past the limit of its size is an error of its write then, which says which file.
+pub fn ignore_size_signal() {
+    // SAFETY: no code is named, the signal is only ignored.
+    unsafe { signal(SIGXFSZ, SIG_IGN) };
 }
 
 fn catch() {
@@ -131,16 +169,22 @@ extern "C" fn tell(_signal: c_int, information: *const Information, _context: *c
 impl Place {
     fn end_at(&self, address: usize) -> ! {
         let place = address - self.bytes.start;
+        let (file, byte) = (&self.files[place / self.size], place % self.size);
         let mut digits = [0; 20];
+        let why: &[u8] = match file.readable(byte) {
+            true => b" by mapping, though it can be otherwise: no space is left for its page on this file system in \
+                     memory; make room there, then the same command does it\n",
+            false => b": the medium has a fault there, or the file was cut; copy the store to a sound disk \
+                       and work on the copy; a rebuild under way begins anew there with --restart\n",
+        };
         for part in [
             b"swistopal: ",
-            self.names[place / self.size].as_bytes(),
+            file.shown.as_bytes(),
             b": byte ",
-            decimal(place % self.size, &mut digits),
+            decimal(byte, &mut digits),
             b" cannot be ",
             self.doing.as_bytes(),
-            b": the medium has a fault there, or the file was cut; copy the store to a sound disk \
-              and work on the copy; a rebuild under way begins anew there with --restart\n",
+            why,
         ] {
             // SAFETY: the bytes are lent for the call.
             unsafe { write(STANDARD_ERROR, part.as_ptr().cast(), part.len()) };

@@ -3,7 +3,7 @@
 use crate::args::{number, Args};
 use crate::failure::{fault, usage, Failure};
 use crate::index::{MOST_ITEMS, MOST_SLOTS};
-use crate::log::Log;
+use crate::log::{End, Log};
 use crate::queues::{self, Queue, MOST_ENTRIES, MOST_QUEUES};
 use crate::text::{grouped, of_shown, shown, shown_path};
 use crate::time;
@@ -40,15 +40,6 @@ pub struct Sizes {
 }
 
 impl Sizes {
-    /// RocketMQ's queue files, and an index of these sizes.
-    pub fn with_index(index: IndexGeometry) -> Sizes {
-        Sizes {
-            entries: None,
-            slots: Some(index.slots),
-            items: Some(index.items),
-        }
-    }
-
     pub fn of(args: &Args) -> Result<Sizes, Failure> {
         Ok(Sizes {
             entries: args.number_within("--entries", 1, MOST_ENTRIES)?,
@@ -60,18 +51,9 @@ impl Sizes {
 
 /// Why nothing can be planned.
 pub struct Refusal {
-    why: Failure,
+    pub why: Failure,
     /// The record that cannot be taken, if one before it can.
     pub before: Option<LogPosition>,
-}
-
-impl Refusal {
-    pub fn why(&self) -> Result<&str, Failure> {
-        match &self.why {
-            Failure::Usage(why) | Failure::Fault(why) => Ok(why),
-            Failure::Unread => Err(Failure::Unread),
-        }
-    }
 }
 
 impl From<Refusal> for Failure {
@@ -101,43 +83,129 @@ pub fn listed(args: &Args) -> Result<Option<Vec<Queue>>, Failure> {
     Ok(Some(queues))
 }
 
-/// The rows of a plan while the log is read for them.
-struct Rows {
-    rows: Vec<Row>,
-    /// Which of them have a record.
-    seen: Vec<bool>,
+/// Finds the rows of a plan while the log is read.
+pub struct Search {
     /// Whether the log's queues are taken, as none were listed.
     derive: bool,
-    entries: QueueEntries,
-    /// Whether older segments of the log were removed.
+    /// Whether older segments of the log were removed: a queue's count starts at its first record then.
     cut: bool,
 }
 
-impl Rows {
-    fn take(&mut self, position: LogPosition, message: &Message) -> Result<(), Failure> {
-        let found = self
-            .rows
-            .iter()
-            .position(|row| row.queue.id == message.queue_id && row.queue.topic == message.topic);
+impl Search {
+    /// A record that makes an entry, and how many its queue has by now if it has a row. Answers whether a row has come or now
+    /// starts elsewhere.
+    pub fn meet(
+        &self,
+        plan: &mut Plan,
+        position: LogPosition,
+        message: &Message,
+        counts: &[QueueOffset],
+    ) -> Result<bool, Failure> {
+        let found = plan.row_of(message);
         let number = match found {
             Some(number) => number,
-            None if self.derive => self.add(position, message)?,
-            None => return Ok(()),
+            None if self.derive => plan.add(position, message)?,
+            None => return Ok(false),
         };
-        if !self.seen[number] && self.cut {
-            let row = &mut self.rows[number];
-            row.start = message.queue_offset;
-            if row.start.0 > self.entries.0 {
+        let row = &mut plan.rows[number];
+        let first = message.queue_offset;
+        let starts = self.cut && counts[number] == row.start && row.start.0 == 0 && first.0 > 0;
+        if starts {
+            row.start = first;
+            if first > QueueOffset(plan.entries.0) {
                 return fault(format!(
                     "queue {} starts with entry {}, past the {} entries of its one file",
                     row.queue.shown(),
-                    row.start.0,
-                    self.entries.0
+                    first.0,
+                    plan.entries.0
                 ));
             }
         }
-        self.seen[number] = true;
-        Ok(())
+        Ok(starts || found.is_none())
+    }
+
+    /// Reads the log from a position on for the rows that are still to come, and to its end. `shown` is told how far.
+    pub fn rest(
+        &self,
+        plan: &mut Plan,
+        log: &Log,
+        from: LogPosition,
+        counts: &[QueueOffset],
+        mut shown: impl FnMut(LogPosition),
+    ) -> Result<End, Refusal> {
+        // Of a queue that has a row and no entry yet, the first record is met once.
+        let mut counts = counts.to_vec();
+        let mut reached = from;
+        let walked = log.walk(from, |position, entry| {
+            reached = position;
+            shown(position);
+            match entry {
+                Entry::Record { message, .. } if makes_entry(message.system_flag) => {
+                    self.meet(plan, position, message, &counts)?;
+                    if let Some(number) = plan.row_of(message) {
+                        counts[number].0 += 1;
+                    }
+                }
+                _ => {}
+            }
+            Ok(true)
+        });
+        walked.map_err(|why| Refusal {
+            why,
+            before: Some(reached),
+        })
+    }
+}
+
+impl Plan {
+    /// For a new rebuild, as far as the log's first records tell. Without sizes RocketMQ's own are taken, so that a broker can
+    /// read the files; they are sparse.
+    pub fn first(
+        log: &Log,
+        sizes: &Sizes,
+        listed: Option<Vec<Queue>>,
+    ) -> Result<(Plan, Search), Refusal> {
+        let search = Search {
+            derive: listed.is_none(),
+            cut: log.first() > LogPosition(0),
+        };
+        let start = QueueOffset(0);
+        let rows = listed.unwrap_or_default().into_iter();
+        let mut plan = Plan {
+            log: log.geometry,
+            entries: QueueEntries(sizes.entries.unwrap_or(MOST_ENTRIES)),
+            index: IndexGeometry {
+                slots: sizes.slots.unwrap_or(MOST_SLOTS),
+                items: sizes.items.unwrap_or(MOST_ITEMS),
+            },
+            index_name: String::new(),
+            rows: rows.map(|queue| Row { queue, start }).collect(),
+        };
+        let mut first_time = None;
+        let walked = log.walk(log.first(), |position, entry| {
+            if let Entry::Record { message, .. } = entry {
+                first_time.get_or_insert(message.store_time);
+                if search.derive && makes_entry(message.system_flag) {
+                    search.meet(&mut plan, position, message, &[start; MOST_QUEUES])?;
+                }
+            }
+            Ok(first_time.is_none() || plan.rows.is_empty())
+        });
+        let nothing = "no record of the log belongs to a queue: there is nothing to rebuild";
+        let why = match walked {
+            Ok(_) if plan.rows.is_empty() => Failure::Fault(String::from(nothing)),
+            Ok(_) => {
+                plan.index_name = time::file_name(first_time.unwrap_or(0));
+                return Ok((plan, search));
+            }
+            Err(why) => why,
+        };
+        Err(Refusal { why, before: None })
+    }
+
+    fn row_of(&self, message: &Message) -> Option<usize> {
+        let mut rows = self.rows.iter();
+        rows.position(|row| row.queue.id == message.queue_id && row.queue.topic == message.topic)
     }
 
     fn add(&mut self, position: LogPosition, message: &Message) -> Result<usize, Failure> {
@@ -157,59 +225,7 @@ impl Rows {
         queue.folder(Path::new(""))?;
         let start = QueueOffset(0);
         self.rows.push(Row { queue, start });
-        self.seen.push(false);
         Ok(self.rows.len() - 1)
-    }
-}
-
-impl Plan {
-    /// For a new rebuild. Without sizes RocketMQ's own are taken, so that a broker can read the files; they are sparse.
-    pub fn new(log: &Log, sizes: &Sizes, listed: Option<Vec<Queue>>) -> Result<Plan, Refusal> {
-        let entries = QueueEntries(sizes.entries.unwrap_or(MOST_ENTRIES));
-        let derive = listed.is_none();
-        let start = QueueOffset(0);
-        let rows = listed.unwrap_or_default().into_iter();
-        let rows: Vec<Row> = rows.map(|queue| Row { queue, start }).collect();
-        let mut rows = Rows {
-            seen: vec![false; rows.len()],
-            rows,
-            derive,
-            entries,
-            cut: log.first() > LogPosition(0),
-        };
-        let mut first_time = None;
-        let mut reached = log.first();
-        let walked = log.walk(log.first(), |position, entry| {
-            reached = position;
-            if let Entry::Record { message, .. } = entry {
-                first_time.get_or_insert(message.store_time);
-                if makes_entry(message.system_flag) {
-                    rows.take(position, message)?;
-                }
-            }
-            Ok(true)
-        });
-        if let Err(why) = walked {
-            let before = rows.seen.contains(&true).then_some(reached);
-            return Err(Refusal { why, before });
-        }
-        if rows.rows.is_empty() {
-            let why = "no record of the log belongs to a queue: there is nothing to rebuild";
-            return Err(Refusal {
-                why: Failure::Fault(String::from(why)),
-                before: None,
-            });
-        }
-        Ok(Plan {
-            log: log.geometry,
-            entries,
-            index: IndexGeometry {
-                slots: sizes.slots.unwrap_or(MOST_SLOTS),
-                items: sizes.items.unwrap_or(MOST_ITEMS),
-            },
-            index_name: time::file_name(first_time.unwrap_or(0)),
-            rows: rows.rows,
-        })
     }
 
     /// Whether a rebuild under way is the one that is asked for now.
@@ -276,8 +292,12 @@ impl Plan {
             stop,
             Answer::QueueNotListed | Answer::OutOfStep | Answer::QueueFull | Answer::IndexFull
         );
+        sound && self.has_entries(progress)
+    }
+
+    pub fn has_entries(&self, progress: &Progress) -> bool {
         let mut counts = self.rows.iter().zip(&progress.counts);
-        sound && counts.any(|(row, count)| *count > row.start)
+        counts.any(|(row, count)| *count > row.start)
     }
 
     pub fn queues(&self) -> Vec<Queue> {
@@ -333,6 +353,6 @@ impl Plan {
 }
 
 /// Transaction type none or commit.
-fn makes_entry(system_flag: u32) -> bool {
+pub fn makes_entry(system_flag: u32) -> bool {
     matches!(system_flag & 12, 0 | 8)
 }

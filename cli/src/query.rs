@@ -1,271 +1,261 @@
 //! `swistopal query`: what happened to this parcel?
 
+mod search;
+
 use crate::args::Args;
 use crate::failure::{fault, usage, Failure, Outcome};
+use crate::form::{Form, Results};
 use crate::index::{self, Bytes, Index, Opened};
-use crate::log::{self, End, Log};
-use crate::properties::{has_items, Names};
-use crate::show::{self, With};
-use crate::text::{array, counted, shown, shown_path, string, Object};
-use crate::time;
-use crate::{note, out};
-use std::io::Write;
-use std::path::Path;
-use swistopal::{query, Answer, Entry, LogPosition, Message, Query};
+use crate::log::{self, Log, Met};
+use crate::note;
+use crate::queues;
+use crate::record::{self, With};
+use crate::shell;
+use crate::text::{counted, shown, shown_path, strings, Object};
+use crate::wanted::{self, times, Seen};
+use search::{Asked, Search};
+use std::collections::BTreeSet;
+use std::os::unix::ffi::OsStrExt;
+use swistopal::{Entry, Query};
 
 const DEFAULT_LIMIT: u64 = 32;
 
-struct Found<'a> {
-    position: LogPosition,
-    length: u64,
-    message: Message<'a>,
-}
-
-/// What the index names, told apart by what stands in the log.
-#[derive(Default)]
-struct Search<'a> {
-    found: Vec<Found<'a>>,
-    same_hash_only: u64,
-    items_read: u64,
-    faults: Vec<String>,
-}
-
 pub fn run(args: &Args) -> Result<Outcome, Failure> {
-    let (topic, key) = (args.bytes("--topic")?, args.bytes("--key")?);
-    let first_time = args.time("--from")?.unwrap_or(0);
-    let last_time = args.time("--to")?.unwrap_or(time::LAST);
-    if first_time > last_time {
-        return usage("--from is later than --to");
+    let asked = asked(args)?;
+    let form = Form::of(args)?;
+    let log = Log::open(args)?;
+    let mut search = Search::new(&log, &asked);
+    let mut hints = wanted::seconds(args, &["--from", "--to"]);
+    if args.flag("--scan") {
+        search.scan(log.first())?;
+        hints.extend(search.hints_on_scan());
+    } else {
+        let Opened { indexes, faults } = index::open_all(args)?;
+        if indexes.is_empty() && faults.is_empty() {
+            log::tell(&log.faults);
+            return fault(format!(
+                "{}: no index in it; --scan looks through the log itself, and `swistopal check {}` says how to make an index",
+                shown_path(args.place()),
+                shell::place(args.place().as_os_str().as_bytes())
+            ));
+        }
+        search.faults.extend(faults);
+        by_index(args, &mut search, &indexes)?;
+        hints.extend(hints_on_index(args, &search, &indexes)?);
     }
-    if !(1..=127).contains(&topic.len()) || !(1..=32_767).contains(&key.len()) {
+    search.arrange()?;
+    let body = args.flag("--body");
+    if body {
+        search.judge_bodies();
+    }
+    hints.extend(search.cut());
+    let left_out = &search.left_out;
+    hints.extend(left_out.sentences(&log, "item of the index", "items of the index"));
+    print(form, &search, body, &hints)?;
+    search.tell();
+    log::tell(&hints);
+    log::tell(&search.faults);
+    log::tell(&search.limits);
+    Ok(match search.faults.is_empty() {
+        true => Outcome::Sound,
+        false => Outcome::Fault,
+    })
+}
+
+fn asked(args: &Args) -> Result<Asked<'_>, Failure> {
+    let (key, unique) = match (args.value("--key"), args.value("--unique-key")) {
+        (Some(_), Some(_)) => return usage("--key and --unique-key: one of them is enough"),
+        (None, Some(_)) => (args.bytes("--unique-key")?, true),
+        _ => (args.bytes("--key")?, false),
+    };
+    let topic = match args.value("--topic") {
+        Some(_) => Some(args.bytes("--topic")?),
+        None => None,
+    };
+    let topic_fits = topic.is_none_or(|topic| (1..=127).contains(&topic.len()));
+    if !topic_fits || !(1..=32_767).contains(&key.len()) {
         return usage("a topic has 1 to 127 bytes, a key 1 to 32,767");
     }
     let limit = args.number_within("--limit", 1, u64::MAX)?;
-    let limit = limit.unwrap_or(DEFAULT_LIMIT);
-    let log = Log::open(args)?;
-    let Opened { indexes, faults } = index::open_all(args)?;
-    if indexes.is_empty() && faults.is_empty() {
-        log::tell(&log.faults);
-        return fault(format!(
-            "{}: no index in it; `swistopal rebuild` makes one from the log",
-            shown_path(args.place())
-        ));
-    }
+    Ok(Asked {
+        topic,
+        key,
+        unique,
+        times: times(args, "--from", "--to")?,
+        limit: limit.unwrap_or(DEFAULT_LIMIT),
+    })
+}
 
-    let mut search = Search {
-        faults: [log.faults.clone(), faults].concat(),
-        ..Search::default()
+/// Asks the indexes, then looks through the part of the log that they do not reach.
+fn by_index(args: &Args, search: &mut Search, indexes: &[Index]) -> Result<(), Failure> {
+    let topics = match search.asked.topic {
+        Some(topic) => BTreeSet::from([topic.to_vec()]),
+        None => topics(args, search)?,
     };
-    // Newest first: the names are times.
-    for index in indexes.iter().rev() {
-        let missing = limit - search.found.len() as u64;
-        if missing == 0 {
-            break;
-        }
-        let ask = Query {
-            index: &index.bytes,
-            index_geometry: index.geometry,
-            topic,
-            key,
-            // All times: where a clock fell or the first time is 0, an item's time is not its record's.
-            first_time: 0,
-            last_time: time::LAST,
-            wanted: 0,
-        };
+    search.topics = topics.len() as u64;
+    let indexes = search.within_limits(indexes);
+    for index in &indexes {
         search.faults.extend(index.doubt.clone());
-        search.ask(&log, &ask, &index.name, (first_time, last_time), missing)?;
     }
-    search
-        .faults
-        .extend(not_reached(&log, &indexes, args.place()));
-
-    let with_body = args.flag("--body");
-    let mut out = out();
-    if args.flag("--json") {
-        let records: Vec<String> = search
-            .found
-            .iter()
-            .map(|found| show::object(found.position, found.length, &found.message, with_body))
-            .collect();
-        let faults: Vec<String> = search.faults.iter().map(|text| string(text)).collect();
-        let answer = Object::new()
-            .bytes("topic", topic)
-            .bytes("key", key)
-            .time("from", first_time)
-            .time("to", last_time)
-            .raw("records", &array(&records))
-            .number("same_hash_only", search.same_hash_only)
-            .number("items_read", search.items_read)
-            .raw("faults", &array(&faults))
-            .end();
-        writeln!(out, "{answer}")?;
-    } else if !search.found.is_empty() {
-        let with = With {
-            topic: false,
-            body: with_body,
-        };
-        show::heading(&mut out, with)?;
-        for found in &search.found {
-            show::line(&mut out, found.position, found.length, &found.message, with)?;
-        }
-    }
-    out.flush()?;
-    search.tell(topic, key);
-    log::tell(&search.faults);
-    if search.faults.is_empty() {
-        Ok(Outcome::Sound)
-    } else {
-        Ok(Outcome::Fault)
-    }
-}
-
-/// What of the log the index does not reach. The log is read on from the last record that has an item up to the next one
-/// that should have some. Zeros are taken for its end: what may stand behind them is for `check` to look at.
-fn not_reached(log: &Log, indexes: &[Index], store: &Path) -> Option<String> {
-    let last_of = |index: &Index| Bytes(&index.bytes).last_position().map(LogPosition);
-    let newest = indexes.iter().max_by_key(|index| last_of(index))?;
-    let last = last_of(newest);
-    let mut position = last.unwrap_or_default().max(log.first());
-    if position >= log.end() {
-        return None;
-    }
-    let stop = loop {
-        match log.entry(position) {
-            Ok(Entry::Record { message, .. }) if Some(position) > last && has_items(&message) => {
-                break None;
-            }
-            Ok(entry) => position.0 += entry.length(),
-            Err(answer) => break Some(answer),
-        }
-    };
-    let reach = match last {
-        Some(last) => format!("it ends with the record at position {}", last.0),
-        None => String::from("it is empty"),
-    };
-    let (name, store) = (&newest.name, shown_path(store));
-    match stop {
-        None => Some(format!(
-            "index {name}: {reach}, but the log goes on with keys: no record from position {} to the end of its files at {} \
-             is found; `swistopal check {store}` says what to do",
-            position.0,
-            log.end().0
-        )),
-        Some(_) if position == log.end() || log.zeros_at(position) => None,
-        Some(answer) => Some(format!(
-            "index {name}: {reach}, and from there on the log {}; records behind are not found; `swistopal check {store}` \
-             says what to do",
-            End::stopped(position, answer).sentence()
-        )),
-    }
-}
-
-impl<'a> Search<'a> {
-    /// Asks one index. Keys that only share the hash take places in its answer, so it is asked for more until enough
-    /// records are the right ones or the chain has ended.
-    fn ask(
-        &mut self,
-        log: &'a Log,
-        question: &Query,
-        name: &str,
-        times: (u64, u64),
-        missing: u64,
-    ) -> Result<(), Failure> {
-        let most = question.index_geometry.items;
-        let mut wanted = missing.min(most);
-        loop {
-            let mut places = vec![LogPosition(0); wanted as usize];
+    for topic in &topics {
+        // Newest first: the names are times.
+        let mut left = search.places();
+        for index in indexes.iter().rev() {
             let question = Query {
-                wanted,
-                ..*question
+                index: &index.bytes,
+                index_geometry: index.geometry,
+                topic,
+                key: search.asked.key,
+                // All times: where a clock fell or the first time is 0, an item's time is not its record's.
+                first_time: 0,
+                last_time: crate::time::LAST,
+                wanted: 0,
             };
-            let queried = match query(&question, &mut places) {
-                Ok(queried) => queried,
-                Err(refusal) => {
-                    let number = refusal.number();
-                    self.faults
-                        .push(format!("index {name}: answer {number}: {refusal}"));
-                    return Ok(());
-                }
-            };
-            let mut once = Search::default();
-            once.read_back(log, &question, queried.found, name, times);
-            let enough = once.found.len() as u64 >= missing;
-            let all_seen = (queried.found.len() as u64) < wanted || wanted == most;
-            if !enough && !all_seen {
-                wanted = wanted.saturating_mul(4).min(most);
-                continue;
-            }
-            if queried.stop == Answer::ChainBroken {
-                once.faults.push(format!(
-                    "index {name}: answer 16 after {}: {}; older records may be missing here",
-                    counted(queried.items_read, "item", "items"),
-                    queried.stop
-                ));
-            }
-            once.found.truncate(missing as usize);
-            self.found.append(&mut once.found);
-            self.faults.append(&mut once.faults);
-            self.same_hash_only += once.same_hash_only;
-            self.items_read += queried.items_read;
-            return Ok(());
-        }
-    }
-
-    fn read_back(
-        &mut self,
-        log: &'a Log,
-        question: &Query,
-        positions: &[LogPosition],
-        name: &str,
-        (first_time, last_time): (u64, u64),
-    ) {
-        let mut before = None;
-        for &position in positions {
-            // A record that has the key twice has two items; they follow each other.
-            if before.replace(position) == Some(position) {
-                continue;
-            }
-            match log.entry(position) {
-                Ok(Entry::Record { length, message }) => {
-                    let carries = message.topic == question.topic
-                        && Names::of(message.properties)
-                            .index_keys()
-                            .any(|key| key == question.key);
-                    if !carries {
-                        self.same_hash_only += 1;
-                    } else if (first_time..=last_time).contains(&message.store_time) {
-                        self.found.push(Found {
-                            position,
-                            length,
-                            message,
-                        });
-                    }
-                }
-                Ok(Entry::Blank { .. }) => self.faults.push(format!(
-                    "index {name}: it names position {}, where the log has a blank",
-                    position.0
-                )),
-                Err(answer) => self.faults.push(format!(
-                    "index {name}: it names position {}, where reading the log answers {}: {answer}",
-                    position.0,
-                    answer.number()
-                )),
+            if left > 0 {
+                left -= search.ask(&question, &index.name, left)?;
             }
         }
     }
+    search.look_behind(&indexes, &shell::place(args.place().as_os_str().as_bytes()))
+}
 
-    fn tell(&self, topic: &[u8], key: &[u8]) {
+/// The topics of the store: those of its queues, and those of its log, which is read for them.
+fn topics(args: &Args, search: &mut Search) -> Result<BTreeSet<Vec<u8>>, Failure> {
+    let on_disk = queues::on_disk(args.place())?.into_iter();
+    let mut seen = Seen::default();
+    seen.topics.extend(on_disk.map(|queue| queue.topic));
+    let log = search.log;
+    log.walk_on(log.first(), |met| {
+        match met {
+            Met::Entry {
+                entry: Entry::Record { message, .. },
+                ..
+            } => seen.add(&message),
+            Met::Entry { .. } => {}
+            Met::Skipped(skipped) => search.passed_over(&skipped),
+        }
+        Ok(true)
+    })?;
+    let mut topics = seen.topics;
+    // The archive asks for no other ones.
+    topics.retain(|topic| (1..=127).contains(&topic.len()));
+    Ok(topics)
+}
+
+/// What may help where the index found nothing, or not all.
+fn hints_on_index(args: &Args, search: &Search, indexes: &[Index]) -> Result<Vec<String>, Failure> {
+    let asked = search.asked;
+    let mut hints = Vec::new();
+    for (name, bytes) in [("topic", asked.topic.unwrap_or(b"")), ("key", asked.key)] {
+        if !bytes.is_ascii() {
+            hints.push(format!(
+                "the {name} is not ASCII: an index that a RocketMQ broker wrote has another hash for it than the one that is \
+                 asked for here, so records may be missing; --scan looks through the log itself"
+            ));
+        }
+    }
+    if !search.found.is_empty() {
+        return Ok(hints);
+    }
+    let place = shown_path(args.place());
+    if let Some(topic) = asked.topic {
+        let on_disk = queues::on_disk(args.place())?.into_iter();
+        let topics: BTreeSet<Vec<u8>> = on_disk.map(|queue| queue.topic).collect();
+        if topics.is_empty() {
+            hints.push(format!(
+                "there are no queues to tell whether the store has topic {}; --scan looks through the log itself",
+                shown(topic)
+            ));
+        } else if !topics.contains(topic) {
+            hints.push(wanted::no_topic("consumequeue", topic, &topics));
+        }
+    }
+    let times = indexes
+        .iter()
+        .filter_map(|index| Bytes(&index.bytes).times());
+    let times = times.reduce(|one, other| (one.0.min(other.0), one.1.max(other.1)));
+    hints.extend(wanted::outside(&place, asked.times, times));
+    Ok(hints)
+}
+
+fn print(form: Form, search: &Search, body: bool, hints: &[String]) -> Result<(), Failure> {
+    let asked = search.asked;
+    let head = match asked.topic {
+        Some(topic) => Object::new().bytes("topic", topic),
+        None => Object::new().raw("topic", "null"),
+    };
+    let head = head
+        .bytes("key", asked.key)
+        .truth("unique", asked.unique)
+        .time("from", asked.times.0)
+        .time("to", asked.times.1);
+    let mut results = Results::start(form, head, "records")?;
+    let with = With {
+        topic: asked.topic.is_none(),
+        body,
+    };
+    for (number, found) in search.found.iter().enumerate() {
+        if !results.is_text() {
+            results.add(&record::object(found, body))?;
+            continue;
+        }
+        if number == 0 {
+            record::heading(results.text(), with)?;
+        }
+        record::line(results.text(), found, with)?;
+    }
+    let tail = Object::new()
+        .truth("more", search.more > 0)
+        .number("older_than_the_log", search.left_out.older)
+        .number("same_hash_only", search.same_hash_only)
+        .number("items_read", search.items_read)
+        .number("records_read", search.records_read)
+        .raw("hints", &strings(hints))
+        .raw("limits", &strings(&search.limits))
+        .raw("faults", &strings(&search.faults));
+    results.end(tail)
+}
+
+impl Search<'_> {
+    fn tell(&self) {
         let found = counted(self.found.len() as u64, "record", "records");
-        let read = counted(self.items_read, "item", "items");
+        let topic = match self.asked.topic {
+            Some(topic) => format!(" of topic {}", shown(topic)),
+            None => String::new(),
+        };
+        let among = match self.asked.topic {
+            None if self.topics > 0 => {
+                format!(" in {}", counted(self.topics, "topic", "topics"))
+            }
+            _ => String::new(),
+        };
+        let key = if self.asked.unique {
+            "unique key"
+        } else {
+            "key"
+        };
+        let items = counted(self.items_read, "item", "items");
+        let records = counted(self.records_read, "record", "records");
+        let read = match (self.by_index, self.records_read) {
+            (true, 0) => format!("{items} of the index read"),
+            (true, _) => format!("{items} of the index and {records} of the log read"),
+            (false, _) => format!("{records} of the log read"),
+        };
         note(&format!(
-            "{found} of topic {} with key {}, newest first; {read} of the index read",
-            shown(topic),
-            shown(key)
+            "{found}{topic} with {key} {}{among}, newest first; {read}",
+            shown(self.asked.key)
         ));
         if self.same_hash_only > 0 {
             let others = counted(self.same_hash_only, "record", "records");
             note(&format!(
                 "{others} left out: another key with the same hash"
+            ));
+        }
+        let behind = self.found.iter().filter(|found| found.behind).count() as u64;
+        if behind > 0 {
+            note(&format!(
+                "{} read behind damage",
+                counted(behind, "record", "records")
             ));
         }
     }

@@ -2,124 +2,272 @@
 
 use crate::args::Args;
 use crate::failure::{fault, usage, Failure, Outcome};
+use crate::form::{Form, Results};
 use crate::log::{self, Log};
+use crate::note;
 use crate::queues::{self, Queue, QueueFile};
-use crate::show::{self, With};
-use crate::text::{array, counted, shown, shown_path, string, Object};
-use crate::{note, out};
-use std::io::Write;
+use crate::record::{self, LeftOut, Read, With};
+use crate::shell;
+use crate::text::{counted, grouped, shown, shown_path, strings, Object};
+use crate::wanted;
+use std::collections::BTreeSet;
+use std::os::unix::ffi::OsStrExt;
 use swistopal::{
-    append, dispatch, read_queue, Dispatch, Entry, IndexGeometry, LogGeometry, LogPosition,
+    append, dispatch, read_queue, Answer, Dispatch, Entry, IndexGeometry, LogGeometry, LogPosition,
     Message, Progress, QueueEntries, QueueOffset, QueueReading,
 };
 
+/// The topic in which a broker keeps delayed messages.
+const DELAYED: &[u8] = b"SCHEDULE_TOPIC_XXXX";
+
 pub fn run(args: &Args) -> Result<Outcome, Failure> {
-    let topic = args.bytes("--topic")?;
-    let Some(id) = args.number_within("--queue", 0, (1 << 31) - 1)? else {
-        return usage("--queue is needed");
-    };
-    let queue = Queue {
-        topic: topic.to_vec(),
-        id: id as u32,
-    };
-    let start = args.number("--start")?.unwrap_or(0);
-    let limit = args.number("--limit")?.unwrap_or(u64::MAX);
-    let tag_code = match args.value("--tag") {
-        Some(_) => Some(tag_code(args.bytes("--tag")?)?),
-        None => None,
-    };
+    let form = Form::of(args)?;
+    let asked = Asked::of(args)?;
+    let queue = &asked.queue;
     let log = Log::open(args)?;
     if args.place().is_file() {
         return usage(format!("{}: a folder is needed", shown_path(args.place())));
     }
-    let files = queues::open(args.place(), &queue)?;
-    let store = shown_path(args.place());
+    let files = queues::open(args.place(), queue)?;
     let Some(count) = queues::count(&files) else {
         log::tell(&log.faults);
-        return fault(format!(
-            "{store}: no queue {} in it; `swistopal list --long {store}` shows topic and queue of each record, \
-             `swistopal rebuild` makes the queues from them",
-            queue.shown()
-        ));
+        return absent(args, queue);
     };
     let file_faults = queues::faults(&files);
-    let whole = file_faults.is_empty();
-    if start > count && whole {
-        return usage(format!(
-            "--start {start}: queue {} has {}",
-            queue.shown(),
-            counted(count, "entry", "entries")
+    let entries = file_faults.is_empty().then_some(count);
+    let (positions, more) = asked.positions(&files, entries)?;
+
+    let mut reading = Reading::new(&log, queue);
+    if let Some(last) = positions.iter().max() {
+        reading.damage = log.damage_before(*last)?;
+    }
+    let store = shell::place(args.place().as_os_str().as_bytes());
+    for fault in file_faults {
+        let next = format!("`swistopal check {store}` says what to do");
+        reading.faults.push(format!("{fault}; {next}"));
+    }
+    let head = Object::new()
+        .bytes("topic", &queue.topic)
+        .number("queue", queue.id.into())
+        .number("entries", count);
+    let mut results = Results::start(form, head, "records")?;
+    for position in positions {
+        reading.show(position, args.flag("--body"), &mut results)?;
+    }
+    let mut hints = asked.hints(more);
+    hints.extend(reading.left_out.sentences(&log, "entry", "entries"));
+    reading.end(&mut results, more, &hints)?;
+    reading.tell(entries);
+    log::tell(&hints);
+    log::tell(&log.limits);
+    log::tell(&reading.faults);
+    Ok(match reading.faults.is_empty() {
+        true => Outcome::Sound,
+        false => Outcome::Fault,
+    })
+}
+
+struct Asked<'a> {
+    queue: Queue,
+    start: u64,
+    limit: u64,
+    tag: Option<&'a [u8]>,
+}
+
+impl Asked<'_> {
+    fn of(args: &Args) -> Result<Asked<'_>, Failure> {
+        let topic = args.bytes("--topic")?.to_vec();
+        let Some(id) = args.number_within("--queue", 0, (1 << 31) - 1)? else {
+            return usage("--queue is needed");
+        };
+        let id = id as u32;
+        let tag = match args.value("--tag") {
+            Some(_) => Some(args.bytes("--tag")?),
+            None => None,
+        };
+        Ok(Asked {
+            queue: Queue { topic, id },
+            start: args.number("--start")?.unwrap_or(0),
+            limit: args.number("--limit")?.unwrap_or(u64::MAX),
+            tag,
+        })
+    }
+
+    /// The positions up to the limit, and how many there are above it. `entries` is how many the queue has, if its files
+    /// are whole.
+    fn positions(
+        &self,
+        files: &[QueueFile],
+        entries: Option<u64>,
+    ) -> Result<(Vec<LogPosition>, u64), Failure> {
+        if let Some(entries) = entries.filter(|entries| self.start > *entries) {
+            return usage(format!(
+                "--start {}: queue {} has {}",
+                self.start,
+                self.queue.shown(),
+                counted(entries, "entry", "entries")
+            ));
+        }
+        let code = self.tag.map(tag_code).transpose()?;
+        let mut positions = Vec::new();
+        for file in files {
+            positions.extend(read(file, &self.queue, self.start, code)?);
+        }
+        let limit = usize::try_from(self.limit).unwrap_or(usize::MAX);
+        let more = positions.len().saturating_sub(limit) as u64;
+        positions.truncate(limit);
+        Ok((positions, more))
+    }
+
+    fn hints(&self, more: u64) -> Vec<String> {
+        let mut hints = Vec::new();
+        if more > 0 {
+            let are = if more == 1 { "is" } else { "are" };
+            hints.push(format!(
+                "cut at --limit {}: there {are} {} more",
+                self.limit,
+                grouped(more)
+            ));
+        }
+        if self.tag.is_some() && self.queue.topic == DELAYED {
+            hints.push(String::from(
+                "the codes of delayed messages are the times of their delivery: no tag is found among them",
+            ));
+        } else if self.tag.is_some_and(|tag| !tag.is_ascii()) {
+            hints.push(String::from(
+                "the tag is not ASCII: queues that a RocketMQ broker wrote have another code for it than the one that is \
+                 asked for here, so records may be missing",
+            ));
+        }
+        hints
+    }
+}
+
+/// The queue has no file: what there is instead.
+fn absent(args: &Args, queue: &Queue) -> Result<Outcome, Failure> {
+    let on_disk = queues::on_disk(args.place())?;
+    let topics: BTreeSet<Vec<u8>> = on_disk.iter().map(|queue| queue.topic.clone()).collect();
+    let of_topic = on_disk.iter().filter(|other| other.topic == queue.topic);
+    let ids: Vec<String> = of_topic.map(|other| other.id.to_string()).collect();
+    let instead = match ids.is_empty() {
+        true => wanted::no_topic("consumequeue", &queue.topic, &topics),
+        false => format!("that topic has the queues {}", ids.join(", ")),
+    };
+    let store = shell::place(args.place().as_os_str().as_bytes());
+    fault(format!(
+        "{}: no queue {} in it: {instead}; `swistopal list --long {store}` shows topic and queue of each record, \
+         `swistopal check {store}` says what is missing",
+        shown_path(args.place()),
+        queue.shown()
+    ))
+}
+
+/// The records of a queue while they are shown.
+struct Reading<'a> {
+    log: &'a Log,
+    queue: &'a Queue,
+    /// The first damage before its last record.
+    damage: Option<LogPosition>,
+    records: u64,
+    behind: u64,
+    left_out: LeftOut,
+    faults: Vec<String>,
+}
+
+impl Reading<'_> {
+    fn new<'a>(log: &'a Log, queue: &'a Queue) -> Reading<'a> {
+        Reading {
+            log,
+            queue,
+            damage: None,
+            records: 0,
+            behind: 0,
+            left_out: LeftOut::default(),
+            faults: log.faults.clone(),
+        }
+    }
+
+    fn show(&mut self, at: LogPosition, body: bool, results: &mut Results) -> Result<(), Failure> {
+        let (position, queue) = (at.0, self.queue);
+        match self.log.entry(at) {
+            Ok(Entry::Record { length, message })
+                if message.topic == queue.topic && message.queue_id == queue.id =>
+            {
+                let read = Read {
+                    position: at,
+                    length,
+                    message,
+                    behind: self.log.is_behind_a_fault(at)
+                        || self.damage.is_some_and(|damage| damage < at),
+                };
+                self.behind += u64::from(read.behind);
+                let fault = record::checksum_fault(&read).filter(|_| body);
+                self.faults.extend(fault);
+                self.show_record(&read, body, results)?;
+            }
+            Ok(_) => self.faults.push(format!(
+                "queue {}: an entry names position {position}, where no record of this queue stands",
+                queue.shown()
+            )),
+            Err(answer) => self.not_read(at, answer),
+        }
+        Ok(())
+    }
+
+    fn show_record(
+        &mut self,
+        read: &Read,
+        body: bool,
+        results: &mut Results,
+    ) -> Result<(), Failure> {
+        let with = With { topic: false, body };
+        if !results.is_text() {
+            results.add(&record::object(read, body))?;
+        } else {
+            if self.records == 0 {
+                record::heading(results.text(), with)?;
+            }
+            record::line(results.text(), read, with)?;
+        }
+        self.records += 1;
+        Ok(())
+    }
+
+    fn not_read(&mut self, position: LogPosition, answer: Answer) {
+        if self.left_out.takes(self.log, position) {
+            return;
+        }
+        self.faults.push(format!(
+            "queue {}: an entry names position {}, {}",
+            self.queue.shown(),
+            position.0,
+            record::not_read(self.log, position, answer)
         ));
     }
 
-    let mut positions = Vec::new();
-    for file in &files {
-        let left = limit - positions.len() as u64;
-        positions.extend(read(file, &queue, start, left, tag_code)?);
+    fn end(&self, results: &mut Results, more: u64, hints: &[String]) -> Result<(), Failure> {
+        let tail = Object::new()
+            .number("more", more)
+            .number("older_than_the_log", self.left_out.older)
+            .raw("hints", &strings(hints))
+            .raw("limits", &strings(&self.log.limits))
+            .raw("faults", &strings(&self.faults));
+        results.end(tail)
     }
 
-    let (json, body) = (args.flag("--json"), args.flag("--body"));
-    let with = With { topic: false, body };
-    let mut out = out();
-    let mut faults = log.faults.clone();
-    faults.extend(
-        file_faults
-            .into_iter()
-            .map(|fault| format!("{fault}; `swistopal check {store}` says what to do")),
-    );
-    let mut shown_records = 0u64;
-    if json {
-        let head = Object::new().bytes("topic", topic).number("queue", id);
-        let head = head.number("entries", count).end();
-        write!(out, "{},\"records\":[", &head[..head.len() - 1])?;
-    }
-    for position in positions {
-        match log.entry(position) {
-            Ok(Entry::Record { length, message })
-                if message.topic == topic && u64::from(message.queue_id) == id =>
-            {
-                if json {
-                    let comma = if shown_records == 0 { "" } else { "," };
-                    let record = show::object(position, length, &message, body);
-                    write!(out, "{comma}\n{record}")?;
-                } else {
-                    if shown_records == 0 {
-                        show::heading(&mut out, with)?;
-                    }
-                    show::line(&mut out, position, length, &message, with)?;
-                }
-                shown_records += 1;
-            }
-            Ok(_) => faults.push(format!(
-                "queue {}: an entry names position {}, where no record of this queue stands",
-                queue.shown(),
-                position.0
-            )),
-            Err(answer) => faults.push(format!(
-                "queue {}: an entry names position {}, where reading the log answers {}: {answer}",
-                queue.shown(),
-                position.0,
-                answer.number()
-            )),
+    fn tell(&self, entries: Option<u64>) {
+        let records = counted(self.records, "record", "records");
+        let entries = entries.map_or(String::new(), |entries| {
+            format!(", which has {}", counted(entries, "entry", "entries"))
+        });
+        note(&format!(
+            "{records} of queue {}{entries}",
+            self.queue.shown()
+        ));
+        if self.behind > 0 {
+            let behind = counted(self.behind, "record", "records");
+            note(&format!("{behind} read behind damage"));
         }
-    }
-    if json {
-        let faults: Vec<String> = faults.iter().map(|text| string(text)).collect();
-        writeln!(out, "\n],\"faults\":{}}}", array(&faults))?;
-    }
-    out.flush()?;
-    let records = counted(shown_records, "record", "records");
-    let entries = if whole {
-        format!(", which has {}", counted(count, "entry", "entries"))
-    } else {
-        String::new()
-    };
-    note(&format!("{records} of queue {}{entries}", queue.shown()));
-    log::tell(&faults);
-    if faults.is_empty() {
-        Ok(Outcome::Sound)
-    } else {
-        Ok(Outcome::Fault)
     }
 }
 
@@ -128,7 +276,6 @@ fn read(
     file: &QueueFile,
     queue: &Queue,
     start: u64,
-    limit: u64,
     tag_code: Option<u64>,
 ) -> Result<Vec<LogPosition>, Failure> {
     let start = start.saturating_sub(file.first).max(file.without_record());
@@ -137,7 +284,7 @@ fn read(
     }
     let mut counts = [QueueOffset(0); 16];
     counts[0] = QueueOffset(file.count);
-    let mut places = vec![LogPosition(0); limit.min(file.count) as usize];
+    let mut places = vec![LogPosition(0); file.count as usize];
     let reading = QueueReading {
         queues: &file.bytes,
         queue_entries: file.entries,

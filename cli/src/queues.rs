@@ -1,16 +1,19 @@
 //! Consume queues of a store folder: consumequeue/TOPIC/QUEUE/ with files of 20-byte entries.
 
-use crate::failure::{fault, usage, At, Failure};
+use crate::failure::{fault, usage, Failure};
+use crate::files::{self, Refused, Unfit};
 use crate::log::numbered_name;
 use crate::map::View;
 use crate::text::{grouped, shown, shown_path};
 use std::cmp::Ordering;
 use std::ffi::OsStr;
-use std::fs::{self, File};
+use std::fs;
 use std::os::unix::ffi::OsStrExt;
 use std::path::{Path, PathBuf};
 use swistopal::QueueEntries;
 
+/// Bytes of an entry.
+pub const ENTRY: usize = QueueEntries::ENTRY_BYTES as usize;
 pub const MOST_ENTRIES: u64 = 300_000;
 pub const MOST_QUEUES: usize = 16;
 pub const FIRST_FILE: &str = "00000000000000000000";
@@ -18,7 +21,7 @@ pub const FIRST_FILE: &str = "00000000000000000000";
 pub const NO_RECORD: u32 = 0x7fff_ffff;
 
 /// A queue's name.
-#[derive(Clone, PartialEq, Eq, PartialOrd, Ord)]
+#[derive(Clone, PartialEq, Eq, PartialOrd, Ord, Hash)]
 pub struct Queue {
     pub topic: Vec<u8>,
     pub id: u32,
@@ -63,8 +66,16 @@ impl QueueFile {
         sizes.take_while(|size| *size == NO_RECORD).count() as u64
     }
 
+    /// What an entry says, if it is one of this file.
+    pub fn entry(&self, number: u64) -> Option<QueueEntry> {
+        let place = number.checked_sub(self.first)?;
+        let from = usize::try_from(place).ok()?.checked_mul(ENTRY)?;
+        let bytes = self.bytes.get(from..)?.first_chunk()?;
+        Some(QueueEntry::of(bytes))
+    }
+
     /// The number behind its last entry.
-    fn end(&self) -> u64 {
+    pub fn end(&self) -> u64 {
         self.first + self.entries.0
     }
 
@@ -140,19 +151,47 @@ fn size(bytes: &[u8], entry: u64) -> u32 {
     u32::from_be_bytes(size.expect("four bytes"))
 }
 
-fn open_file(path: &Path, first: u64) -> Result<QueueFile, Failure> {
+/// What an entry says of its record.
+#[derive(Clone, Copy, PartialEq, Eq)]
+pub struct QueueEntry {
+    pub position: u64,
+    pub size: u32,
+    pub code: u64,
+}
+
+impl QueueEntry {
+    pub fn of(bytes: &[u8; ENTRY]) -> QueueEntry {
+        let [position, code] = [&bytes[..8], &bytes[12..]]
+            .map(|part| u64::from_be_bytes(part.try_into().expect("eight bytes")));
+        let size = u32::from_be_bytes(bytes[8..12].try_into().expect("four bytes"));
+        QueueEntry {
+            position,
+            size,
+            code,
+        }
+    }
+}
+
+fn open_file(path: &Path, first: u64) -> Result<QueueFile, Refused> {
     let place = shown_path(path);
-    let file = File::open(path).at("open", path)?;
-    let length = file.metadata().at("read", path)?.len();
+    let (file, length) = files::open(path)?;
     let entries = length / QueueEntries::ENTRY_BYTES;
-    if !length.is_multiple_of(QueueEntries::ENTRY_BYTES) || !(1..=MOST_ENTRIES).contains(&entries) {
-        return fault(format!(
+    if !length.is_multiple_of(QueueEntries::ENTRY_BYTES) || entries == 0 {
+        let sentence = format!(
             "{place}: {} bytes are no queue file; one has 20 for each of 1 to {} entries",
             grouped(length),
             grouped(MOST_ENTRIES)
-        ));
+        );
+        return Err(Refused::new(Unfit::Content, sentence));
     }
-    let bytes = View::of_file(&file, length as usize).at("map", path)?;
+    if entries > MOST_ENTRIES {
+        let (entries, most) = (grouped(entries), grouped(MOST_ENTRIES));
+        let sentence =
+            format!("{place}: {entries} entries; this tool reads queue files of {most} at most");
+        return Err(Refused::new(Unfit::Limit, sentence));
+    }
+    let bytes = View::of_file(&file, length as usize)
+        .map_err(|error| Refused::new(Unfit::Unreadable, format!("cannot map {place}: {error}")))?;
     let in_use = (0..entries).take_while(|number| size(&bytes, *number) != 0);
     let count = in_use.count() as u64;
     Ok(QueueFile {
@@ -164,21 +203,29 @@ fn open_file(path: &Path, first: u64) -> Result<QueueFile, Failure> {
     })
 }
 
-/// A queue's files in order.
+/// A queue's files in order; the first that cannot be read ends it.
 pub fn open(store: &Path, queue: &Queue) -> Result<Vec<QueueFile>, Failure> {
+    let opened = open_each(store, queue)?;
+    opened.into_iter().map(|file| Ok(file?)).collect()
+}
+
+/// A queue's files in order, and why others could not be opened.
+pub fn open_each(store: &Path, queue: &Queue) -> Result<Vec<Result<QueueFile, Refused>>, Failure> {
     let folder = queue.folder(&store.join("consumequeue"))?;
+    let paths = match files::within(&folder) {
+        Ok(paths) => paths,
+        Err(refused) => return Ok(vec![Err(refused)]),
+    };
     let mut found = Vec::new();
-    if folder.is_dir() {
-        for entry in fs::read_dir(&folder).at("read", &folder)? {
-            let entry = entry.at("read", &folder)?;
-            if let Some(first) = entry.file_name().to_str().and_then(numbered_name) {
-                found.push((first / QueueEntries::ENTRY_BYTES, entry.path()));
-            }
+    for path in paths {
+        let name = path.file_name().and_then(OsStr::to_str);
+        if let Some(first) = name.and_then(numbered_name) {
+            found.push((first / QueueEntries::ENTRY_BYTES, path));
         }
     }
     found.sort();
     let opened = found.iter().map(|(first, path)| open_file(path, *first));
-    opened.collect()
+    Ok(opened.collect())
 }
 
 /// The queues that have a folder, by name.
@@ -198,16 +245,9 @@ pub fn on_disk(store: &Path) -> Result<Vec<Queue>, Failure> {
     Ok(queues)
 }
 
-fn folders(folder: &Path) -> Result<Vec<PathBuf>, Failure> {
-    let mut found = Vec::new();
-    if folder.is_dir() {
-        for entry in fs::read_dir(folder).at("read", folder)? {
-            let path = entry.at("read", folder)?.path();
-            if path.is_dir() {
-                found.push(path);
-            }
-        }
-    }
+fn folders(folder: &Path) -> Result<Vec<PathBuf>, Refused> {
+    let mut found = files::within(folder)?;
+    found.retain(|path| path.is_dir());
     Ok(found)
 }
 

@@ -5,14 +5,14 @@ use std::os::unix::ffi::OsStrExt;
 use std::path::Path;
 
 /// Bytes as one line of text: what is printable as it is, a backslash doubled, every other byte as `\xNN`. A worn disk
-/// must not be able to write control characters to a terminal.
+/// must not be able to write control characters to a terminal, nor anything that hides or turns around what stands beside it.
 pub fn shown(bytes: &[u8]) -> String {
     let mut text = String::new();
     for chunk in bytes.utf8_chunks() {
         for character in chunk.valid().chars() {
             if character == '\\' {
                 text.push_str("\\\\");
-            } else if character.is_control() {
+            } else if is_unseen(character) {
                 let mut buffer = [0; 4];
                 push_hex_escapes(&mut text, character.encode_utf8(&mut buffer).as_bytes());
             } else {
@@ -22,6 +22,20 @@ pub fn shown(bytes: &[u8]) -> String {
         push_hex_escapes(&mut text, chunk.invalid());
     }
     text
+}
+
+/// Control characters, line ends, and characters that are not seen but change how others are: those that turn the direction
+/// of writing, those without a width, other format characters and fillers. The list is Unicode's, of its categories Cc, Cf, Zl
+/// and Zp and of its property Default_Ignorable_Code_Point.
+pub fn is_unseen(character: char) -> bool {
+    character.is_control()
+        || matches!(character,
+            '\u{ad}' | '\u{34f}' | '\u{600}'..='\u{605}' | '\u{61c}' | '\u{6dd}' | '\u{70f}'
+            | '\u{890}'..='\u{891}' | '\u{8e2}' | '\u{115f}'..='\u{1160}' | '\u{17b4}'..='\u{17b5}'
+            | '\u{180b}'..='\u{180f}' | '\u{200b}'..='\u{200f}' | '\u{2028}'..='\u{202e}'
+            | '\u{2060}'..='\u{206f}' | '\u{3164}' | '\u{fe00}'..='\u{fe0f}' | '\u{feff}' | '\u{ffa0}'
+            | '\u{fff0}'..='\u{fffb}' | '\u{110bd}' | '\u{110cd}' | '\u{13430}'..='\u{1343f}'
+            | '\u{1bca0}'..='\u{1bca3}' | '\u{1d173}'..='\u{1d17a}' | '\u{e0000}'..='\u{e0fff}')
 }
 
 /// A path as one line of text: a worn disk may have any bytes in its names.
@@ -78,6 +92,7 @@ pub fn counted(number: u64, one: &str, many: &str) -> String {
 }
 
 /// One JSON object, field by field.
+#[derive(Clone)]
 pub struct Object(String);
 
 impl Object {
@@ -121,6 +136,20 @@ impl Object {
             .raw(&format!("{name}_rfc3339"), &written)
     }
 
+    /// With the fields of another one.
+    pub fn and(mut self, other: &Object) -> Object {
+        if self.0.len() > 1 && other.0.len() > 1 {
+            self.0.push(',');
+        }
+        self.0.push_str(&other.0[1..]);
+        self
+    }
+
+    /// What there is so far; its last value may be a list that is still to be written.
+    pub fn unclosed(self) -> String {
+        self.0
+    }
+
     pub fn end(mut self) -> String {
         self.0.push('}');
         self.0
@@ -137,6 +166,12 @@ pub fn array<T: AsRef<str>>(values: &[T]) -> String {
     }
     text.push(']');
     text
+}
+
+/// A list of strings.
+pub fn strings(texts: &[String]) -> String {
+    let texts: Vec<String> = texts.iter().map(|text| string(text)).collect();
+    array(&texts)
 }
 
 pub fn string(value: &str) -> String {
@@ -162,8 +197,10 @@ fn push_string(text: &mut String, value: &str) {
         match character {
             '"' => text.push_str("\\\""),
             '\\' => text.push_str("\\\\"),
-            '\u{0}'..='\u{1f}' | '\u{7f}' => {
-                write!(text, "\\u{:04x}", character as u32).expect("a string takes all")
+            _ if is_unseen(character) => {
+                for unit in character.encode_utf16(&mut [0; 2]) {
+                    write!(text, "\\u{unit:04x}").expect("a string takes all");
+                }
             }
             _ => text.push(character),
         }
@@ -186,6 +223,21 @@ mod tests {
         for text in ["\\", "\\x", "\\x4", "\\xé", "\\n"] {
             assert_eq!(of_shown(text), None);
         }
+    }
+
+    #[test]
+    fn what_is_not_seen_is_shown() {
+        for (text, seen) in [
+            ("a\u{202e}b", "a\\xe2\\x80\\xaeb"),
+            ("\u{200b}\u{feff}", "\\xe2\\x80\\x8b\\xef\\xbb\\xbf"),
+            ("\u{2066}\u{2069}", "\\xe2\\x81\\xa6\\xe2\\x81\\xa9"),
+            ("Büro 東京 \u{1f4e6}", "Büro 東京 \u{1f4e6}"),
+        ] {
+            assert_eq!(shown(text.as_bytes()), seen);
+            assert_eq!(of_shown(seen).as_deref(), Some(text.as_bytes()));
+        }
+        assert_eq!(string("\u{9b}\u{202e}"), r#""\u009b\u202e""#);
+        assert_eq!(string("\u{e0041}"), r#""\udb40\udc41""#);
     }
 
     #[test]

@@ -1,149 +1,82 @@
-//! The work folder of a rebuild, inside the store. It is locked while one works in it.
+//! The work folder of a rebuild, where its results go. It is locked while one works in it.
 //!
 //! plan: what is being built. queues: all queues as one run of bytes. store/index/NAME: the index. journal: the last batch.
-//! store/consumequeue: the queue files, when all is done. old: what `--force` replaces.
+//! store/consumequeue: the queue files, when all is done. kept: the time in the names of what `--force` replaces.
 
-use crate::failure::{fault, usage, At, Failure};
+mod folder;
+mod place;
+mod targets;
+
+use crate::failure::{fault, At, Failure};
 use crate::index::{item_place, slot_place, Bytes};
-use crate::journal::{Journal, Stage, State, Target, Writer};
+use crate::journal::{Journal, Stage, State, Writer};
+use crate::log::{End, Log};
 use crate::map::{Draft, View};
-use crate::plan::Plan;
-use crate::queues::{directory, FIRST_FILE, NO_RECORD};
+use crate::plan::{Plan, Refusal, Search};
+use crate::queues::directory;
 use crate::text::{grouped, shown_path};
-use std::fs::{self, File, OpenOptions, TryLockError};
-use std::io::{self, Write};
+pub use folder::{remove_finished, Claim};
+use folder::{sync_folder, write_whole, FOLDER};
+pub use place::results_in_the_way;
+use std::fs::{self, File, OpenOptions};
 use std::os::unix::fs::FileExt;
 use std::path::{Path, PathBuf};
 use swistopal::{
-    dispatch, Answer, Dispatch, Dispatched, LogPosition, Progress, QueueEntries, QueueOffset,
+    dispatch, Answer, Dispatch, Dispatched, Entry, LogPosition, Progress, QueueEntries,
 };
+use targets::{entry_bytes, filled, index_changes, index_length, queues_length, Target, Targets};
 
-const FOLDER: &str = "swistopal.rebuild";
-const FINISHED: &str = "swistopal.rebuild.done";
-const LOCK: &str = "lock";
-/// What a rebuild puts into the store.
-const RESULTS: [&str; 2] = ["consumequeue", "index"];
-
-/// The work folder, locked.
-pub struct Claim {
-    store: PathBuf,
-    folder: PathBuf,
-    _lock: File,
-}
+/// Steps between two moments in which the progress is shown.
+const PIECE: u64 = 32_768;
 
 impl Claim {
-    /// The rebuild that is under way, if there is one. At most its lock is written, if it was cut before it had one.
-    pub fn existing(store: &Path) -> Result<Option<Claim>, Failure> {
-        let folder = store.join(FOLDER);
-        if !folder.exists() {
-            return Ok(None);
-        }
-        ask_for_lock(&folder)?;
-        Claim::lock(store, folder).map(Some)
+    /// Empty work files in a new folder. Without a plan nothing in it counts.
+    pub fn begin(self, plan: Plan, search: Search) -> Result<Work, Failure> {
+        let mut work = self.work(plan);
+        work.make_files()?;
+        work.search = Some(search);
+        Ok(work)
     }
 
-    pub fn create(store: &Path) -> Result<Claim, Failure> {
-        let folder = store.join(FOLDER);
-        if let Err(error) = fs::create_dir(&folder) {
-            return fault(format!(
-                "cannot create {}: {error}; a rebuild works inside the store: move away what is in its place, \
-                 or copy the store to where it can be written",
-                shown_path(folder)
-            ));
-        }
-        Claim::lock(store, folder)
-    }
-
-    fn lock(store: &Path, folder: PathBuf) -> Result<Claim, Failure> {
-        let path = folder.join(LOCK);
-        let mut options = OpenOptions::new();
-        let lock = options.create(true).truncate(false).write(true);
-        let lock = lock.open(&path).at("open", &path)?;
-        match lock.try_lock() {
-            Ok(()) => Ok(Claim {
-                store: store.to_path_buf(),
-                folder,
-                _lock: lock,
-            }),
-            Err(TryLockError::WouldBlock) => fault(format!(
-                "{}: another rebuild is at work",
-                shown_path(folder)
-            )),
-            Err(TryLockError::Error(error)) => Err(error).at("lock", &path),
-        }
-    }
-
-    /// Ends this rebuild and removes its folder: the rename is the end, the rest is tidying.
-    pub fn discard(self) -> Result<(), Failure> {
-        let finished = self.store.join(FINISHED);
-        remove_finished(&self.store)?;
-        fs::rename(&self.folder, &finished).at("rename", &self.folder)?;
-        sync_folder(&self.store)?;
-        remove_finished(&self.store)
-    }
-
-    /// Writes a plan with empty work files into a new folder. The plan comes last: without it nothing here counts.
-    pub fn begin(self, plan: Plan) -> Result<Work, Failure> {
-        let parts = Parts::of(&self.folder, &plan);
-        fs::create_dir_all(&parts.index_folder).at("create", &parts.index_folder)?;
-        let queues = zeros(&parts.queues, queues_length(&plan)?)?;
-        let region = plan.entries.0 * QueueEntries::ENTRY_BYTES;
-        for (number, row) in plan.rows.iter().enumerate() {
-            let mut entry = [0; 20];
-            entry[8..12].copy_from_slice(&NO_RECORD.to_be_bytes());
-            let filled = entry.repeat(row.start.0 as usize);
-            let written = queues.write_all_at(&filled, number as u64 * region);
-            written.at("write", &parts.queues)?;
-        }
-        queues.sync_all().at("write", &parts.queues)?;
-        let index = zeros(&parts.index, index_length(&plan)?)?;
-        index.sync_all().at("write", &parts.index)?;
-        sync_folder(&parts.index_folder)?;
-        sync_folder(&parts.store)?;
-
-        let (part, path) = (self.folder.join("plan.part"), self.folder.join("plan"));
-        let mut file = File::create(&part).at("create", &part)?;
-        let text = plan.to_text();
-        let written = file
-            .write_all(text.as_bytes())
-            .and_then(|()| file.sync_all());
-        written.at("write", &part)?;
-        fs::rename(&part, &path).at("rename", &part)?;
-        sync_folder(&self.folder)?;
-        sync_folder(&self.store)?;
-        self.resume(plan)
-    }
-
-    /// Goes on from the last journal.
+    /// Goes on from the last journal. Without one nothing counts that stands in the work files.
     pub fn resume(self, plan: Plan) -> Result<Work, Failure> {
-        let parts = Parts::of(&self.folder, &plan);
-        let mut progress = Progress::from_position(plan.log.first_position);
-        for (count, row) in progress.counts.iter_mut().zip(&plan.rows) {
-            *count = row.start;
+        let mut work = self.work(plan);
+        if !work.parts.journal.exists() {
+            work.make_files()?;
+            return Ok(work);
         }
+        work.apply_journal()?;
+        if work.state.stage == Stage::Building {
+            work.clear_items()?;
+        }
+        Ok(work)
+    }
+
+    /// Before its first step.
+    fn work(self, plan: Plan) -> Work {
+        let parts = Parts::of(&self.folder, &plan);
         let state = State {
             stage: Stage::Building,
             steps: 0,
-            progress,
+            progress: Progress::from_position(plan.log.first_position),
         };
-        let mut work = Work {
+        Work {
             directory: directory(&plan.queues()),
             claim: self,
             plan,
             parts,
             state,
-        };
-        if work.parts.journal.exists() {
-            work.apply_journal()?;
+            targets: None,
+            pending: None,
+            search: None,
         }
-        Ok(work)
     }
 }
 
 /// Paths inside the work folder.
 struct Parts {
     store: PathBuf,
-    old: PathBuf,
+    kept: PathBuf,
     queues: PathBuf,
     index_folder: PathBuf,
     index: PathBuf,
@@ -156,7 +89,7 @@ impl Parts {
         let store = folder.join("store");
         let index_folder = store.join("index");
         Parts {
-            old: folder.join("old"),
+            kept: folder.join("kept"),
             queues: folder.join("queues"),
             index: index_folder.join(&plan.index_name),
             journal: folder.join("journal"),
@@ -167,33 +100,130 @@ impl Parts {
     }
 }
 
+/// A batch that is done in memory.
+struct Batch {
+    after: State,
+    used_before: u64,
+}
+
 /// A rebuild with its plan.
 pub struct Work {
     claim: Claim,
     pub plan: Plan,
     directory: Vec<u8>,
     parts: Parts,
-    pub state: State,
+    state: State,
+    targets: Option<Targets>,
+    /// A batch that no journal has yet. The first one goes to its place without one, if it reaches the log's end.
+    pending: Option<Batch>,
+    /// As long as the plan is not written: how queues come into it.
+    search: Option<Search>,
 }
 
 impl Work {
-    /// At most so many steps, done as a whole: after a crash either all of them stand or none.
+    /// The first batch of a new rebuild: the log is read once for the queues, for its end and for the steps. Nothing of it
+    /// counts before `go_on`.
+    pub fn first_batch(
+        &mut self,
+        log: &Log,
+        budget: u64,
+        mut shown: impl FnMut(LogPosition, u64),
+    ) -> Result<(Dispatched, End), Failure> {
+        let mut done = self.steps(log, log.end(), budget, &mut shown)?;
+        let after = self.state();
+        let position = after.progress.position;
+        let ends = [Answer::Done, Answer::Damaged, Answer::NotReadable];
+        let end = match &self.search {
+            Some(search) if !ends.contains(&done.stop) => {
+                let shown = |position| shown(position, done.steps);
+                let counts = &after.progress.counts;
+                search.rest(&mut self.plan, log, position, counts, shown)?
+            }
+            // It stops where reading does: that is the log's end, or damage.
+            _ => {
+                done.stop = Answer::Done;
+                log.walk(position, |_, _| Ok(true))?
+            }
+        };
+        Ok((done, end))
+    }
+
+    /// Writes the plan, and what has been done so far.
+    pub fn go_on(&mut self) -> Result<(), Failure> {
+        self.directory = directory(&self.plan.queues());
+        if let (Some(targets), Some(batch)) = (&mut self.targets, &mut self.pending) {
+            targets.fill(&self.plan, &mut batch.after.progress);
+        }
+        self.write_plan()?;
+        self.keep()
+    }
+
+    /// Leaves what was done for whoever goes on; a rebuild without a plan leaves nothing.
+    pub fn leave(mut self) -> Result<(), Failure> {
+        match self.search {
+            Some(_) => self.claim.discard(),
+            None => self.keep(),
+        }
+    }
+
+    /// At most so many steps, done as a whole: after a crash either all of them stand or none. `shown` is told the position
+    /// and the steps now and then.
     pub fn batch(
         &mut self,
-        log: &[u8],
+        log: &Log,
         readable_end: LogPosition,
         budget: u64,
+        mut shown: impl FnMut(LogPosition, u64),
     ) -> Result<Dispatched, Failure> {
-        let (queues_file, index_file) = self.open_targets()?;
-        let mut queues = Draft::of_file(&queues_file, queues_length(&self.plan)?)
-            .at("map", &self.parts.queues)?;
-        let mut index =
-            Draft::of_file(&index_file, index_length(&self.plan)?).at("map", &self.parts.index)?;
-        let before = self.state.progress;
-        let used_before = Bytes(&index).used();
-        let mut progress = before;
+        let done = self.steps(log, readable_end, budget, &mut shown)?;
+        self.keep()?;
+        Ok(done)
+    }
+
+    /// Steps in memory. Items are brought to the file meanwhile.
+    fn steps(
+        &mut self,
+        log: &Log,
+        readable_end: LogPosition,
+        budget: u64,
+        shown: &mut impl FnMut(LogPosition, u64),
+    ) -> Result<Dispatched, Failure> {
+        let mut targets = self.take_targets()?;
+        let used_before = targets.used();
+        let mut after = self.kept_state();
+        let mut steps = 0;
+        let stop = loop {
+            let left = PIECE.min(budget - steps);
+            let done = self.dispatch(log, readable_end, left, &mut targets, &mut after.progress)?;
+            steps += done.steps;
+            let brought = targets.bring_items(self.plan.index.slots);
+            brought.at("write", &self.parts.index)?;
+            shown(after.progress.position, steps);
+            if self.takes_queue(log, done.stop, &mut targets, &mut after.progress)? {
+                continue;
+            }
+            if done.stop != Answer::BudgetSpent || steps == budget {
+                break done.stop;
+            }
+        };
+        after.steps += steps;
+        self.targets = Some(targets);
+        if steps > 0 {
+            self.pending = Some(Batch { after, used_before });
+        }
+        Ok(Dispatched { stop, steps })
+    }
+
+    fn dispatch(
+        &self,
+        log: &Log,
+        readable_end: LogPosition,
+        budget: u64,
+        targets: &mut Targets,
+        progress: &mut Progress,
+    ) -> Result<Dispatched, Failure> {
         let call = Dispatch {
-            log,
+            log: log.bytes(),
             log_geometry: self.plan.log,
             readable_end,
             directory: &self.directory,
@@ -201,34 +231,181 @@ impl Work {
             index_geometry: self.plan.index,
             budget,
         };
-        let done = match dispatch(&call, &mut progress, &mut queues, &mut index) {
-            Ok(done) => done,
-            Err(refusal) => {
-                return fault(format!(
-                    "{}: answer {}: {refusal}; --restart begins anew",
-                    shown_path(&self.claim.folder),
-                    refusal.number()
-                ))
-            }
+        let length = self.plan.entries.buffer_length(self.plan.rows.len() as u64);
+        let queues = &mut targets.queues.bytes[..length.unwrap_or(0)];
+        let done = dispatch(&call, progress, queues, &mut targets.index.bytes);
+        done.or_else(|refusal| self.refused(refusal))
+    }
+
+    /// Whether a stop is one at a queue that comes into the plan now.
+    fn takes_queue(
+        &mut self,
+        log: &Log,
+        stop: Answer,
+        targets: &mut Targets,
+        progress: &mut Progress,
+    ) -> Result<bool, Failure> {
+        let stops = [Answer::QueueNotListed, Answer::OutOfStep];
+        let position = progress.position;
+        let (Some(search), Ok(Entry::Record { message, .. }), true) =
+            (&self.search, log.entry(position), stops.contains(&stop))
+        else {
+            return Ok(false);
         };
-        if done.steps > 0 {
-            let after = State {
-                stage: Stage::Building,
-                steps: self.state.steps + done.steps,
-                progress,
-            };
-            let write = || {
-                let mut journal = Writer::create(&self.parts.journal_part, &after)?;
-                let entries = self.plan.entries;
-                patch_queues(&mut journal, &queues, entries, &before, &progress)?;
-                patch_index(&mut journal, &index, self.plan.index.slots, used_before)?;
-                journal.finish()
-            };
-            write().at("write", &self.parts.journal_part)?;
-            self.commit_journal()?;
-            self.apply_journal()?;
+        match search.meet(&mut self.plan, position, &message, &progress.counts) {
+            Ok(false) => return Ok(false),
+            Ok(true) => {}
+            Err(why) => {
+                let before = self.plan.has_entries(progress).then_some(position);
+                return Err(Refusal { why, before }.into());
+            }
         }
-        Ok(done)
+        self.directory = directory(&self.plan.queues());
+        targets.fill(&self.plan, progress);
+        Ok(true)
+    }
+
+    /// How far it is.
+    pub fn state(&self) -> State {
+        let pending = self.pending.as_ref().map(|batch| batch.after);
+        pending.unwrap_or_else(|| self.kept_state())
+    }
+
+    /// What the journal says. A queue that has no entry by it is at its start.
+    fn kept_state(&self) -> State {
+        let mut state = self.state;
+        for (count, row) in state.progress.counts.iter_mut().zip(&self.plan.rows) {
+            *count = row.start.max(*count);
+        }
+        state
+    }
+
+    fn refused<T>(&self, refusal: Answer) -> Result<T, Failure> {
+        fault(format!(
+            "{}: answer {}: {refusal}; --restart begins anew",
+            shown_path(&self.claim.folder),
+            refusal.number()
+        ))
+    }
+
+    /// Writes the journal of the batch that is done, by which it counts, and brings it to the index.
+    pub fn keep(&mut self) -> Result<(), Failure> {
+        let Some(Batch { after, used_before }) = self.pending.take() else {
+            return Ok(());
+        };
+        let mut targets = self.take_targets()?;
+        let brought =
+            targets.bring_entries(self.plan.entries, &self.state.progress, &after.progress);
+        brought.at("write", &self.parts.queues)?;
+        // What the journal that goes now has promised is brought to the disk with it.
+        targets.sync().at("write", &self.claim.folder)?;
+        let index = &targets.index.bytes;
+        let changes = index_changes(&Bytes(index), self.plan.index.slots, used_before);
+        let write = || {
+            let mut journal = Writer::create(&self.parts.journal_part, &after)?;
+            for change in &changes {
+                let bytes = &index[change.start as usize..change.end as usize];
+                journal.patch(change.start, bytes)?;
+            }
+            journal.finish()
+        };
+        write().at("write", &self.parts.journal_part)?;
+        self.commit_journal()?;
+        self.state = after;
+        targets.apply(&changes).at("write", &self.parts.index)?;
+        self.targets = Some(targets);
+        Ok(())
+    }
+
+    /// Writes the plan, by which a rebuild has begun.
+    fn write_plan(&mut self) -> Result<(), Failure> {
+        if self.search.take().is_some() {
+            let path = self.claim.folder.join("plan");
+            write_whole(&path, self.plan.to_text().as_bytes())?;
+            sync_folder(&self.claim.store)?;
+        }
+        Ok(())
+    }
+
+    /// Brings the only batch to the index. Until a journal says that results are being placed, a start begins anew.
+    fn finish_only_batch(&mut self) -> Result<(), Failure> {
+        if let Some(Batch { after, used_before }) = self.pending.take() {
+            let targets = self.take_targets()?;
+            let index = Bytes(&targets.index.bytes);
+            let changes = index_changes(&index, self.plan.index.slots, used_before);
+            targets.apply(&changes).at("write", &self.parts.index)?;
+            self.state = after;
+            self.targets = Some(targets);
+        }
+        Ok(())
+    }
+
+    /// Work files of zeros, and the places before the first entry of a queue as RocketMQ fills them.
+    fn make_files(&self) -> Result<(), Failure> {
+        let (parts, plan) = (&self.parts, &self.plan);
+        fs::create_dir_all(&parts.index_folder).at("create", &parts.index_folder)?;
+        let queues = zeros(&parts.queues, queues_length(plan)?)?;
+        let region = plan.entries.0 * QueueEntries::ENTRY_BYTES;
+        for (number, row) in plan.rows.iter().enumerate() {
+            let written = queues.write_all_at(&filled(row.start), number as u64 * region);
+            written.at("write", &parts.queues)?;
+        }
+        queues.sync_all().at("write", &parts.queues)?;
+        let index = zeros(&parts.index, index_length(plan)?)?;
+        index.sync_all().at("write", &parts.index)?;
+        sync_folder(&parts.index_folder)?;
+        sync_folder(&parts.store)
+    }
+
+    /// The work files with what they have so far.
+    fn take_targets(&mut self) -> Result<Targets, Failure> {
+        if let Some(targets) = self.targets.take() {
+            return Ok(targets);
+        }
+        let (queues_file, index_file) = self.open_targets()?;
+        let queues = self.load_queues(&queues_file)?;
+        let index = self.load_index(&index_file)?;
+        let brought = Bytes(&index).used();
+        Ok(Targets {
+            queues: Target {
+                file: queues_file,
+                bytes: queues,
+                from: 0,
+            },
+            index: Target {
+                file: index_file,
+                bytes: index,
+                from: item_place(self.plan.index.slots, 0),
+            },
+            brought,
+        })
+    }
+
+    fn load_queues(&self, file: &File) -> Result<Draft, Failure> {
+        let path = &self.parts.queues;
+        let mut queues = Draft::for_file(file, queues_length(&self.plan)?).at("map", path)?;
+        let region = self.plan.entries.0 * QueueEntries::ENTRY_BYTES;
+        let counts = self.kept_state().progress.counts;
+        for (number, count) in counts.iter().enumerate() {
+            let from = number as u64 * region;
+            let in_use = from..from + entry_bytes(*count);
+            queues.load(file, in_use).at("read", path)?;
+        }
+        Ok(queues)
+    }
+
+    fn load_index(&self, file: &File) -> Result<Draft, Failure> {
+        let path = &self.parts.index;
+        let mut index = Draft::for_file(file, index_length(&self.plan)?).at("map", path)?;
+        if self.state.steps > 0 {
+            let slots = self.plan.index.slots;
+            let table = &mut index[..slot_place(slots) as usize];
+            file.read_exact_at(table, 0).at("read", path)?;
+            let used = Bytes(&index).used().min(self.plan.index.items);
+            let items = item_place(slots, 1)..item_place(slots, used);
+            index.load(file, items).at("read", path)?;
+        }
+        Ok(index)
     }
 
     fn open_targets(&self) -> Result<(File, File), Failure> {
@@ -263,15 +440,37 @@ impl Work {
         };
         self.state = journal.state;
         if self.state.stage == Stage::Building {
-            let (queues, index) = self.open_targets()?;
-            journal
-                .apply(&queues, &index)
-                .at("write", &self.claim.folder)?;
+            let (_, index) = self.open_targets()?;
+            journal.apply(&index).at("write", &self.parts.index)?;
         }
         Ok(())
     }
 
+    /// A batch that was cut may have left items that count for nothing: they make way for zeros.
+    fn clear_items(&self) -> Result<(), Failure> {
+        let path = &self.parts.index;
+        let (_, file) = self.open_targets()?;
+        let used = self.items()? + 1;
+        let mut from = item_place(self.plan.index.slots, used);
+        let end = index_length(&self.plan)? as u64;
+        let mut block = vec![0; 1 << 20];
+        while from < end {
+            let length = block.len().min((end - from) as usize);
+            let block = &mut block[..length];
+            file.read_exact_at(block, from).at("read", path)?;
+            if block.iter().any(|byte| *byte != 0) {
+                block.fill(0);
+                file.write_all_at(block, from).at("write", path)?;
+            }
+            from += length as u64;
+        }
+        file.sync_data().at("write", path)
+    }
+
     pub fn items(&self) -> Result<u64, Failure> {
+        if let Some(targets) = &self.targets {
+            return Ok(targets.used() - 1);
+        }
         let index = match self.parts.index.exists() {
             true => self.parts.index.clone(),
             false => self.claim.store.join("index").join(&self.plan.index_name),
@@ -281,123 +480,6 @@ impl Work {
         file.read_exact_at(&mut header, 0).at("read", &index)?;
         Ok(Bytes(&header).used() - 1)
     }
-
-    /// What stands in the way of the results; `--force` replaces it.
-    pub fn in_the_way(&self) -> Option<PathBuf> {
-        let mut places = RESULTS.iter().filter(|name| {
-            // One that has been placed already is this rebuild's own.
-            self.state.stage == Stage::Building || self.parts.store.join(name).exists()
-        });
-        places.find_map(|name| occupied(&self.claim.store, name))
-    }
-
-    /// Writes the queue files and moves all results to their places. It may be cut anywhere and called again.
-    pub fn place(mut self) -> Result<(), Failure> {
-        if self.state.stage == Stage::Building {
-            self.write_queue_files()?;
-            self.state.stage = Stage::Placing;
-            let journal = Writer::create(&self.parts.journal_part, &self.state);
-            let written = journal.and_then(Writer::finish);
-            written.at("write", &self.parts.journal_part)?;
-            self.commit_journal()?;
-        }
-        let Parts { store, old, .. } = &self.parts;
-        for name in RESULTS {
-            let (made, place) = (store.join(name), self.claim.store.join(name));
-            if !made.exists() {
-                continue;
-            }
-            if occupied(&self.claim.store, name).is_some() {
-                fs::create_dir_all(old).at("create", old)?;
-                fs::rename(&place, old.join(name)).at("move", &place)?;
-            }
-            fs::rename(&made, &place).at("move", &made)?;
-            sync_folder(&self.claim.store)?;
-        }
-        self.claim.discard()
-    }
-
-    fn write_queue_files(&self) -> Result<(), Failure> {
-        let consumequeue = self.parts.store.join("consumequeue");
-        if consumequeue.exists() {
-            fs::remove_dir_all(&consumequeue).at("remove", &consumequeue)?;
-        }
-        let (queues, _) = self.open_targets()?;
-        let length = queues_length(&self.plan)?;
-        let queues = View::of_file(&queues, length).at("map", &self.parts.queues)?;
-        let region = (self.plan.entries.0 * QueueEntries::ENTRY_BYTES) as usize;
-        for (number, row) in self.plan.rows.iter().enumerate() {
-            let folder = row.queue.folder(&consumequeue)?;
-            fs::create_dir_all(&folder).at("create", &folder)?;
-            let path = folder.join(FIRST_FILE);
-            let file = zeros(&path, region)?;
-            let in_use = entry_bytes(self.state.progress.counts[number]) as usize;
-            let bytes = &queues[number * region..number * region + in_use];
-            let written = file.write_all_at(bytes, 0).and_then(|()| file.sync_all());
-            written.at("write", &path)?;
-            for folder in folder.ancestors().take(2) {
-                sync_folder(folder)?;
-            }
-        }
-        sync_folder(&consumequeue)?;
-        sync_folder(&self.parts.store)
-    }
-}
-
-/// The new entries of each queue.
-fn patch_queues(
-    journal: &mut Writer,
-    queues: &[u8],
-    entries: QueueEntries,
-    before: &Progress,
-    after: &Progress,
-) -> io::Result<()> {
-    let region = entries.0 * QueueEntries::ENTRY_BYTES;
-    let rows = before.counts.iter().zip(&after.counts);
-    for (number, (old, new)) in rows.enumerate() {
-        let start = number as u64 * region;
-        let (from, to) = (start + entry_bytes(*old), start + entry_bytes(*new));
-        if from < to {
-            journal.patch(Target::Queues, from, &queues[from as usize..to as usize])?;
-        }
-    }
-    Ok(())
-}
-
-/// The header, the new items, and the slots that they stand in: dispatch changes no other byte of the index.
-fn patch_index(journal: &mut Writer, index: &[u8], slots: u64, used_before: u64) -> io::Result<()> {
-    let fields = Bytes(index);
-    let used = fields.used();
-    journal.patch(Target::Index, 0, &index[..40])?;
-    let (from, to) = (item_place(slots, used_before), item_place(slots, used));
-    journal.patch(Target::Index, from, &index[from as usize..to as usize])?;
-    let new = used_before..used;
-    let mut changed: Vec<u64> = new
-        .filter_map(|item| fields.slot_of_item(slots, item))
-        .collect();
-    changed.sort_unstable();
-    changed.dedup();
-    // Slots close to each other share a patch; those between them keep their bytes.
-    for near in changed.chunk_by(|slot, next| next - slot <= 4) {
-        let (first, last) = (near[0], near[near.len() - 1]);
-        let (from, to) = (slot_place(first), slot_place(last + 1));
-        journal.patch(Target::Index, from, &index[from as usize..to as usize])?;
-    }
-    Ok(())
-}
-
-fn entry_bytes(count: QueueOffset) -> u64 {
-    count.0 * QueueEntries::ENTRY_BYTES
-}
-
-fn queues_length(plan: &Plan) -> Result<usize, Failure> {
-    let length = plan.entries.buffer_length(plan.rows.len() as u64);
-    length.map_or_else(|| fault(Answer::BadSizes.to_string()), Ok)
-}
-
-fn index_length(plan: &Plan) -> Result<usize, Failure> {
-    let length = plan.index.buffer_length();
-    length.map_or_else(|| fault(Answer::BadSizes.to_string()), Ok)
 }
 
 /// A work file as it was begun. One that was cut would only be lengthened again, with zeros for what it had.
@@ -417,29 +499,6 @@ fn whole(path: &Path, length: usize) -> Result<File, Failure> {
     Ok(file)
 }
 
-/// A new file of zeros; where the file system can, they take no room.
-fn zeros(path: &Path, length: usize) -> Result<File, Failure> {
-    let mut options = OpenOptions::new();
-    let options = options.read(true).write(true).create(true).truncate(true);
-    let file = options.open(path).at("create", path)?;
-    file.set_len(length as u64).at("write", path)?;
-    Ok(file)
-}
-
-fn empty(folder: &Path) -> bool {
-    fs::read_dir(folder).is_ok_and(|mut entries| entries.next().is_none())
-}
-
-/// A result's place in the store, if something is there.
-pub fn occupied(store: &Path, name: &str) -> Option<PathBuf> {
-    let place = store.join(name);
-    (place.symlink_metadata().is_ok() && !empty(&place)).then_some(place)
-}
-
-pub fn results_in_the_way(store: &Path) -> Option<PathBuf> {
-    RESULTS.iter().find_map(|name| occupied(store, name))
-}
-
 /// The plan of a rebuild that has begun and not ended, once it has been written.
 pub fn plan_under_way(store: &Path) -> Result<Option<Plan>, Failure> {
     let path = store.join(FOLDER).join("plan");
@@ -456,47 +515,11 @@ pub fn plan_under_way(store: &Path) -> Result<Option<Plan>, Failure> {
     }
 }
 
-/// A folder of ours has the lock, or nothing if it was cut right at its beginning or its end.
-fn ask_for_lock(folder: &Path) -> Result<(), Failure> {
-    if folder.join(LOCK).exists() || empty(folder) {
-        return Ok(());
-    }
-    usage(format!(
-        "{}: it is not the work folder of a rebuild; move it away",
-        shown_path(folder)
-    ))
-}
-
-/// What a finished or discarded rebuild may have left.
-pub fn remove_finished(store: &Path) -> Result<(), Failure> {
-    let finished = store.join(FINISHED);
-    if !finished.exists() {
-        return Ok(());
-    }
-    ask_for_lock(&finished)?;
-    remove(&finished).at("remove", &finished)
-}
-
-/// The lock goes last: by it what a cut leaves is known as ours.
-fn remove(folder: &Path) -> io::Result<()> {
-    // A link goes without what it leads to.
-    if !folder.is_symlink() {
-        for entry in fs::read_dir(folder)? {
-            let entry = entry?;
-            if entry.file_type()?.is_dir() {
-                fs::remove_dir_all(entry.path())?;
-            } else if entry.file_name() != LOCK {
-                fs::remove_file(entry.path())?;
-            }
-        }
-    }
-    fs::remove_dir_all(folder)
-}
-
-/// Waits until the disk has a folder's names. Some file systems know no such wait for folders.
-fn sync_folder(folder: &Path) -> Result<(), Failure> {
-    match File::open(folder).and_then(|folder| folder.sync_all()) {
-        Err(error) if error.kind() == io::ErrorKind::InvalidInput => Ok(()),
-        synced => synced.at("write", folder),
-    }
+/// A new file of zeros; where the file system can, they take no room.
+fn zeros(path: &Path, length: usize) -> Result<File, Failure> {
+    let mut options = OpenOptions::new();
+    let options = options.read(true).write(true).create(true).truncate(true);
+    let file = options.open(path).at("create", path)?;
+    file.set_len(length as u64).at("write", path)?;
+    Ok(file)
 }

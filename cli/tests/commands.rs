@@ -26,7 +26,7 @@ fn help_and_usage() {
     bare(&["list", "x", "--limit"]).is(2, "--limit needs a value");
     bare(&["list", "x", "--json=1"]).is(2, "--json takes no value");
     bare(&["list", "x", "--limit", "1", "--limit", "2"]).is(2, "--limit is given twice");
-    bare(&["query", "x", "--key", "k"]).is(2, "--topic is needed");
+    bare(&["query", "x", "--key", "k"]).is(2, "x: there is no such folder");
     bare(&["query", "x", "--topic", "T"]).is(2, "--key is needed");
     bare(&["query", "x", "--topic", "T", "--key="]).is(2, "a topic has 1 to 127 bytes");
     bare(&["queue", "x", "--topic", "T"]).is(2, "--queue is needed");
@@ -57,7 +57,7 @@ fn options(text: &str) -> Vec<String> {
 fn man_page_and_completion_have_every_option() {
     let man = include_str!("../swistopal.1").replace("\\-", "-");
     let completion = include_str!("../completion.bash");
-    for command in ["demo", "list", "rebuild", "query", "queue", "check"] {
+    for command in ["demo", "list", "rebuild", "query", "queue", "show", "check"] {
         let mut known = options(&bare(&[command, "--help"]).out);
         for option in &known {
             assert!(
@@ -187,10 +187,13 @@ fn list_gives_the_listers_lines() {
     assert_eq!(second.is(0, "").out.split_once('\n').unwrap().1, tail);
 
     let some = tool("list", &store, &["--from", "192", "--limit", "2"]);
-    some.is(0, "the budget is spent");
+    some.is(0, "cut at --limit 2: more follow; --from 576 goes on");
     assert_eq!(some.out.lines().count(), 4);
-    some.shows("stop 9\n");
-    tool("list", &store, &["--from", "193"]).is(1, "stops at 193 with 10: the record is damaged");
+    some.shows("stop limit\n");
+    tool("list", &store, &["--from", "193"]).is(
+        2,
+        "--from 193: it is inside the record, which goes from 192 to 383; start at one of these",
+    );
     tool("list", &store, &["--from", "83658"]).is(0, "stop 0");
     tool("list", &store, &["--from", "196609"]).is(2, "--from 196609");
     tool("list", &store, &["--end", "383"]).is(0, "stop 0");
@@ -241,9 +244,11 @@ fn rebuild_makes_what_check_expects() {
     assert_eq!(built.len(), log.len() + 8);
 
     // Nothing is replaced without being asked for.
-    tool("rebuild", &store, &SMALL).is(2, "replace it with --force");
+    let way = "it is there already; --force puts the new one in its place and keeps it";
+    tool("rebuild", &store, &SMALL).is(2, way);
     assert_eq!(files(&store), built);
     tool("rebuild", &store, &[&SMALL[..], &["--force"]].concat()).is(0, "stop      0");
+    remove_kept(&store);
     assert_eq!(files(&store), built);
 
     // In parts, by other batches.
@@ -251,17 +256,18 @@ fn rebuild_makes_what_check_expects() {
     tool("rebuild", &store, &options).is(0, "stop      9: the budget is spent");
     tool("check", &store, &[]).is(0, "go on with the rebuild");
     tool("rebuild", &store, &["--force", "--slots", "96"]).is(2, "another number of --slots");
-    tool("rebuild", &store, &[]).is(2, "replace it with --force");
+    tool("rebuild", &store, &[]).is(2, way);
     tool("rebuild", &store, &["--force", "--budget", "0"]).is(0, "stop      9");
     tool("rebuild", &store, &["--force"])
         .is(0, "439 in all")
         .is(0, "going on at position");
+    remove_kept(&store);
     assert_eq!(files(&store), built);
 
     // Begun, then anew with other sizes. What cannot be done forgets nothing.
     tool("rebuild", &store, &options).is(0, "stop      9");
     let begun = files(&store);
-    tool("rebuild", &store, &["--restart"]).is(2, "replace it with --force");
+    tool("rebuild", &store, &["--restart"]).is(2, way);
     let refused = ["--restart", "--force", "--queues", "/nowhere/at/all"];
     tool("rebuild", &store, &refused).is(2, "--queues /nowhere/at/all");
     assert_eq!(files(&store), begun);

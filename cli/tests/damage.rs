@@ -67,9 +67,12 @@ fn damage_in_the_log() {
         let check = tool("check", &store, &[]);
         check.is(1, "it stops at 6696 with 10: the record is damaged");
         check.shows("get another copy of commitlog/00000000000000000000");
-        check
-            .shows("behind the log's end")
-            .shows("outside the log that is there");
+        // One bad record hides no other one.
+        check.shows("it can be read again from 6888 on");
+        check.shows("read behind damage: 402 records, 1 blank");
+        check.shows("437 entries, 402 of them read behind damage");
+        check.shows("1 entry of records where the log was not read");
+        assert!(!check.out.contains("behind the log's end"), "{}", check.out);
         // The index names a place where no record stands any more.
         tool("query", &store, &QUERY)
             .is(1, "names position 6696, where reading the log answers 10")
@@ -82,13 +85,17 @@ fn damage_in_the_log() {
         )
         .is(1, "an entry names position 6696");
         assert_eq!(files(&store), before);
-        let rebuild = tool("rebuild", &store, &[&SMALL[..], &["--force"]].concat());
+        let force = [&SMALL[..], &["--force"]].concat();
+        tool("rebuild", &store, &force).is(1, "the log stops at 6696 with 10");
+        assert_eq!(files(&store), before);
+        let rebuild = tool("rebuild", &store, &[&force[..], &["--shorten"]].concat());
         rebuild
             .is(1, "the log stops at 6696 with 10")
             .shows("steps     35, up to position 6696");
+        // The index ends at the damage now; the log behind it is looked through.
         tool("query", &store, &QUERY)
-            .is(1, "0 records")
-            .is(1, "from there on the log stops at 6696 with 10");
+            .is(1, "1 record of")
+            .is(1, "the log cannot be read from 6696 to 6888");
         assert_eq!(
             fs::read(segment(&store, 0)).unwrap(),
             before[Path::new("commitlog/00000000000000000000")]
@@ -97,10 +104,9 @@ fn damage_in_the_log() {
     // A zeroed sector inside the log is not the log's end.
     let store = stores.copy();
     zero_from(&segment(&store, 0), MIDDLE, MIDDLE + 512);
-    tool("check", &store, &[]).is(
-        1,
-        "stops at 6696 with 10: zeros stand there, but other bytes again from 72",
-    );
+    tool("check", &store, &[])
+        .is(1, "stops at 6696 with 10: zeros stand there")
+        .shows("it can be read again from 72");
     // A blank of a wrong length.
     let store = stores.copy();
     edit(&segment(&store, 0), |bytes| bytes[65_484] = 54);
@@ -131,7 +137,8 @@ fn files_of_wrong_lengths() {
         .shows("\nstop 0\n");
     cut(&segment(&store, 65_536), 83_658 - 65_536 - 1);
     tool("list", &store, &[]).is(1, "with 8: the record is not wholly below the readable end");
-    tool("rebuild", &store, &[&SMALL[..], &["--force"]].concat()).is(1, "steps     438");
+    let shorten = [&SMALL[..], &["--force", "--shorten"]].concat();
+    tool("rebuild", &store, &shorten).is(1, "steps     438");
     // Only one segment, cut: its size is told.
     fs::remove_file(segment(&store, 65_536)).unwrap();
     cut(&segment(&store, 0), 5000);
@@ -145,7 +152,7 @@ fn files_of_wrong_lengths() {
     let store = stores.copy();
     fs::remove_file(segment(&store, 65_536)).unwrap();
     tool("check", &store, &[]).is(1, "the segment at 65536 is missing before it");
-    tool("rebuild", &store, &[&SMALL[..], &["--force"]].concat()).is(1, "up to position 65536");
+    tool("rebuild", &store, &shorten).is(1, "up to position 65536");
     let store = stores.copy();
     cut(&segment(&store, 65_536), 65_537);
     tool("list", &store, &[]).is(1, "65,537 bytes, though a segment has 65,536");
@@ -202,7 +209,7 @@ fn folders_of_another_layout() {
     for first in [u64::MAX - 1023, 1 << 40] {
         let path = segment(&far, first);
         fs::write(&path, [0; 1024]).unwrap();
-        tool("check", &far, &[]).is(1, "it ends above 2^40");
+        tool("check", &far, &[]).is(0, "it ends above 2^40");
         fs::remove_file(path).unwrap();
     }
     fs::write(far.join("commitlog/99999999999999999999"), [0; 1024]).unwrap();
@@ -210,7 +217,10 @@ fn folders_of_another_layout() {
     let store = stores.copy();
     let trim = queue_file(&store, "SORTER_TRIM", 0);
     fs::copy(&trim, trim.with_file_name("18446744073709551600")).unwrap();
-    tool("check", &store, &[]).is(1, "it goes past the 300,000 entries of one file");
+    tool("check", &store, &[]).is(
+        1,
+        "SORTER_TRIM/0: entry 922337203685477580 names position 4029, where the log has no such record (20 in all)",
+    );
     let queue = ["--topic", "SORTER_TRIM", "--queue", "0"];
     tool("queue", &store, &queue).is(1, "40 records").is(
         1,
@@ -221,12 +231,12 @@ fn folders_of_another_layout() {
     made(&zeros, 0, 4096, 0, |_, _| Vec::new());
     tool("list", &zeros, &[]).is(0, "stop 0");
     tool("rebuild", &zeros, &[]).is(1, "there is nothing to rebuild");
-    tool("check", &zeros, &[]).is(1, "0 records");
+    tool("check", &zeros, &[]).is(0, "0 records");
     assert_eq!(files(&zeros).len(), 1);
     // Missing results.
     let store = stores.copy();
     fs::remove_dir_all(store.join("index")).unwrap();
-    tool("query", &store, &QUERY).is(1, "no index in it; `swistopal rebuild` makes one");
+    tool("query", &store, &QUERY).is(1, "no index in it");
     tool("check", &store, &[]).is(1, "missing  index: 1,294 items by the log");
     fs::remove_file(queue_file(&store, "SORTER_TRIM", 0)).unwrap();
     tool("check", &store, &[]).is(1, "missing  queue SORTER_TRIM/0: 20 entries by the log");
@@ -242,7 +252,11 @@ fn damage_in_queues() {
         bytes[5 * 20 + 7] ^= 1
     });
     tool("check", &store, &[])
-        .is(1, "SORTER_TRIM/0: entry 5 differs from the log's")
+        .is(
+            1,
+            "SORTER_TRIM/0: entry 5 differs from the log's: position 24841, size ",
+        )
+        .shows("; by the log position 24840, size ")
         .shows("--force");
     tool("queue", &store, &trim)
         .is(1, "reading the log answers 10")
@@ -251,12 +265,25 @@ fn damage_in_queues() {
     edit(&queue_file(&store, "SORTER_TRIM", 0), |bytes| {
         bytes[5 * 20..6 * 20].fill(0)
     });
-    tool("check", &store, &[]).is(1, "SORTER_TRIM/0: 5 entries, the log gives 20");
+    tool("check", &store, &[]).is(
+        1,
+        "SORTER_TRIM/0: 1 of 20 entries by the log not there, the first is entry 5, of the record at 24840",
+    );
     let store = stores.copy();
     edit(&queue_file(&store, "SORTER_TRIM", 0), |bytes| {
         bytes[20 * 20 + 10] = 1
     });
-    tool("check", &store, &[]).is(1, "21 entries, 1 of them behind the log's end");
+    tool("check", &store, &[]).is(
+        1,
+        "SORTER_TRIM/0: entry 20 names position 0, where the log has no such record",
+    );
+    edit(&queue_file(&store, "SORTER_TRIM", 0), |bytes| {
+        bytes[20 * 20 + 5] = 2
+    });
+    let check = tool("check", &store, &[]);
+    check.is(1, "21 entries, 1 of them behind the log's end");
+    // It may be the log that is too short.
+    assert!(!check.out.contains("swistopal rebuild"), "{}", check.out);
     // An entry of another queue: a record stands there, but not of this one.
     let store = stores.copy();
     edit(&queue_file(&store, "SORTER_TRIM", 0), |bytes| {
@@ -295,9 +322,11 @@ fn damage_in_the_index() {
     tool("check", &store, &["--slots", "96"]).is(2, "--slots 96");
     let store = stores.copy();
     edit(&index_file(&store), |bytes| bytes[item(700) + 11] ^= 1);
-    tool("check", &store, &[]).is(1, "item 700 differs from the log's");
+    tool("check", &store, &[])
+        .is(1, "item 700 differs from the log's: hash ")
+        .shows("; by the log hash ");
     edit(&index_file(&store), |bytes| bytes[item(700) + 7] = 1);
-    tool("check", &store, &[]).is(1, "1 item outside the log that is there");
+    tool("check", &store, &[]).is(1, "item 700 differs from the log's: hash ");
     // Every slot leads nowhere: the last item's one still fits, so the sizes are found.
     let store = stores.copy();
     edit(&index_file(&store), |bytes| {
@@ -311,16 +340,22 @@ fn damage_in_the_index() {
         .json();
     let store = stores.copy();
     edit(&index_file(&store), |bytes| bytes[40..40 + 4 * 97].fill(0));
-    tool("check", &store, &["--slots", "97"]).is(1, "slot 0 differs from the log's");
+    tool("check", &store, &["--slots", "97"]).is(1, ": slot 0 is 0, by the log 1,2");
     let store = stores.copy();
     edit(&index_file(&store), |bytes| bytes[7] ^= 1);
-    tool("check", &store, &[]).is(1, "the header differs from the log's");
+    tool("check", &store, &[]).is(
+        1,
+        ": the header's first time is 1,772,431,080,843, by the log 1,772,431,080,842",
+    );
     // Two index files are asked one after the other.
     let store = stores.copy();
     let older = store.join("index/20250101000000000");
     fs::write(&older, [0; 40 + 84]).unwrap();
     tool("query", &store, &QUERY).is(0, "2 records");
-    tool("check", &store, &[]).is(0, "one of several, so not compared with the log");
+    let check = tool("check", &store, &[]);
+    check.is(0, "20250101000000000: no item yet");
+    check.shows("2 index files; this tool makes one");
+    check.shows("as the log gives it");
 }
 
 #[test]
@@ -427,7 +462,7 @@ fn stops_of_a_rebuild() {
         .is(1, "stopped before the record at 306, entry 4 of queue T/0");
     tool("check", &skipped, &[]).is(
         1,
-        "a rebuild stops at 306 with 12: the queue is out of step",
+        "out of step at 306: the record there is entry 4 of queue T/0, though entry 3 comes next",
     );
 
     let many = folder.join("many");
@@ -437,7 +472,7 @@ fn stops_of_a_rebuild() {
     tool("rebuild", &many, &SMALL)
         .is(2, "a 17th queue, T/16; at most 16")
         .is(2, "--queues FILE; --end 1472 rebuilds what is before it");
-    tool("check", &many, &[]).is(1, "not compared: ");
+    tool("check", &many, &[]).is(1, "17 queues; this tool makes 16 at once");
     assert_eq!(files(&many).len(), 1);
 
     // A name that would leave the store.

@@ -57,13 +57,13 @@ fn only_digits_name_an_index() {
     let index = index_file(&store);
     fs::write(store.join("index/notes.txt"), "parcel 17: see the log").unwrap();
     fs::copy(&index, index.with_extension("bak")).unwrap();
+    tool("check", &store, &[])
+        .is(0, "97 of 97 slots filled; as the log gives it")
+        .shows("nothing: the store is sound");
     fs::create_dir(store.join("index/20990101000000000")).unwrap();
     let run = tool("query", &store, &PARCEL);
     run.is(0, "2 records of");
     assert_eq!(run.out.lines().count(), 3);
-    tool("check", &store, &[])
-        .is(0, "97 of 97 slots filled; as the log gives it")
-        .shows("nothing: the store is sound");
     fs::remove_file(&index).unwrap();
     tool("query", &store, &PARCEL).is(1, "no index in it");
 }
@@ -105,7 +105,7 @@ fn what_the_log_lacks_is_told() {
     let folder = Folder::new("lacks");
     let store = built(&folder, "store");
     fs::remove_file(segment(&store, 65_536)).unwrap();
-    let lacks = "the segment at 65536 is missing before it; the log is read up to there";
+    let lacks = "the segment at 65536 is missing before it";
     for (command, found) in [("query", &PARCEL), ("queue", &TRIM)] {
         tool(command, &store, found).is(1, lacks);
         let json = tool(command, &store, &[&found[..], &["--json"]].concat()).json();
@@ -165,13 +165,14 @@ fn an_index_that_lags_behind_the_log_is_told() {
         let records = [WITH_KEY, WITHOUT_KEY, ROLLED_BACK, last, WITH_KEY];
         let positions = grown(&store, 1, &records);
         let said = format!(
-            "it ends with the record at position 4096, but the log goes on with keys: no record from position {} to the end \
-             of its files at 8192 is found; `swistopal check {}` says what to do",
+            "it ends with the record at position 4096, but the log goes on with keys: it lacks 2 records from position {} on, \
+             which were looked through here; `swistopal check {}` says what to do",
             positions[3],
             store.display()
         );
         tool("query", &store, &KEY)
-            .is(1, "1 record of")
+            .is(1, "3 records of")
+            .is(1, "1 item of the index and 2 records of the log read")
             .is(1, &said);
         let json = tool("query", &store, &[&KEY[..], &["--json"]].concat());
         assert_eq!(json.is(1, "").json().get("faults").list().len(), 1);
@@ -186,7 +187,7 @@ fn an_index_that_lags_behind_the_log_is_told() {
     grown(&empty, 1, &[WITHOUT_KEY, WITH_KEY]);
     tool("query", &empty, &KEY)
         .is(1, "it is empty, but the log goes on with keys")
-        .is(1, "0 records");
+        .is(1, "1 record of");
     // Of several files the one that reaches furthest counts.
     let several = folder.join("several");
     grown(&several, 2, &[WITH_KEY, WITH_KEY]);
@@ -197,10 +198,8 @@ fn an_index_that_lags_behind_the_log_is_told() {
     made(&several, 8192, 4096, 1, |position, _| {
         record(position, b"T", (0, 2), 1000, b"KEYS\x01k")
     });
-    tool("query", &several, &["--topic", "T", "--key", "other"]).is(
-        1,
-        "no record from position 8192 to the end of its files at 12288",
-    );
+    tool("query", &several, &["--topic", "T", "--key", "other"])
+        .is(1, "it lacks 1 record from position 8192 on");
 }
 
 #[test]
@@ -212,13 +211,14 @@ fn damage_behind_the_index_is_told() {
         bytes[positions[1] as usize - 4096 + 4] ^= 1
     });
     let said = format!(
-        "it ends with the record at position 4096, and from there on the log stops at {} with 10: the record is damaged; \
-         records behind are not found; `swistopal check {}` says what to do",
+        "the log cannot be read from {} to {}, {} bytes: answer 10: the record is damaged; what is behind was looked through",
         positions[1],
-        store.display()
+        positions[2],
+        positions[2] - positions[1]
     );
     tool("query", &store, &KEY)
-        .is(1, "1 record of")
+        .is(1, "2 records of")
+        .is(1, "1 record read behind damage")
         .is(1, &said);
 }
 

@@ -1,6 +1,9 @@
 //! What the tests share: a folder of their own, the tool's runs, a checker of JSON, stores to damage.
 #![allow(dead_code, reason = "each test uses a part")]
 
+pub mod broker;
+pub mod sites;
+
 use std::collections::BTreeMap;
 use std::fs;
 use std::path::{Path, PathBuf};
@@ -49,6 +52,17 @@ pub fn tool(command: &str, place: &Path, options: &[&str]) -> Run {
 
 pub fn bare(words: &[&str]) -> Run {
     of(Command::new(TOOL).args(words).output().unwrap())
+}
+
+/// What a shell makes of a command that the tool names.
+pub fn shell(command: &str) -> Run {
+    let folder = Path::new(TOOL).parent().expect("the tool is in a folder");
+    let mut paths = vec![folder.to_path_buf()];
+    paths.extend(std::env::split_paths(&std::env::var_os("PATH").unwrap()));
+    let mut call = Command::new("bash");
+    call.args(["-c", command]);
+    call.env("PATH", std::env::join_paths(paths).unwrap());
+    of(call.output().unwrap())
 }
 
 fn of(output: Output) -> Run {
@@ -131,6 +145,30 @@ pub fn segment(store: &Path, first: u64) -> PathBuf {
     store.join("commitlog").join(format!("{first:020}"))
 }
 
+/// What rebuilds have kept of a result: its folders with a time in their names.
+pub fn kept(store: &Path, result: &str) -> Vec<PathBuf> {
+    let entries = fs::read_dir(store).unwrap();
+    let mut found: Vec<PathBuf> = entries.map(|entry| entry.unwrap().path()).collect();
+    found.retain(|path| {
+        let name = path.file_name().unwrap().to_str().unwrap();
+        let time = name
+            .strip_prefix(result)
+            .and_then(|rest| rest.strip_prefix('.'));
+        time.is_some_and(|time| time.len() >= 20 && time.contains("T") && time.contains("Z"))
+    });
+    found.sort();
+    found
+}
+
+/// As whoever owns the store removes it.
+pub fn remove_kept(store: &Path) {
+    for result in ["consumequeue", "index"] {
+        for folder in kept(store, result) {
+            fs::remove_dir_all(folder).unwrap();
+        }
+    }
+}
+
 pub fn queue_file(store: &Path, topic: &str, queue: u32) -> PathBuf {
     let folder = store.join("consumequeue").join(topic);
     folder.join(queue.to_string()).join("00000000000000000000")
@@ -154,9 +192,18 @@ pub fn edit_journal(store: &Path, change: impl FnOnce(&mut Vec<u8>)) {
         bytes.truncate(bytes.len() - 8);
         change(bytes);
         let mut sum = 0xcbf2_9ce4_8422_2325u64;
-        for byte in bytes.iter() {
-            sum = (sum ^ u64::from(*byte)).wrapping_mul(0x0100_0000_01b3);
+        let mut add = |word: u64| {
+            sum = (sum ^ word).wrapping_mul(0x9e37_79b9_7f4a_7c15);
+            sum ^= sum >> 32;
+        };
+        for word in bytes.chunks_exact(8) {
+            add(u64::from_be_bytes(word.try_into().unwrap()));
         }
+        let mut last = [0; 8];
+        let rest = bytes.chunks_exact(8).remainder();
+        last[..rest.len()].copy_from_slice(rest);
+        add(u64::from_be_bytes(last));
+        add(bytes.len() as u64);
         bytes.extend(sum.to_be_bytes());
     });
 }
