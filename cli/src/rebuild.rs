@@ -218,7 +218,12 @@ fn build(
         Some(end) => end,
         None => {
             let shown = |position: LogPosition, done| meter.show(position.0, done);
-            let (done, end) = work.first_batch(log, budget.min(batch), shown)?;
+            let mut reading = None;
+            let read = |at: LogPosition| {
+                let begin = || Meter::new("reading", at.0, log.end().0);
+                reading.get_or_insert_with(begin).read(at.0);
+            };
+            let (done, end) = work.first_batch(log, budget.min(batch), shown, read)?;
             ask_about_end(log, &end, args)?;
             if done.stop != Answer::Done {
                 work.go_on()?;

@@ -122,12 +122,13 @@ pub struct Work {
 
 impl Work {
     /// The first batch of a new rebuild: the log is read once for the queues, for its end and for the steps. Nothing of it
-    /// counts before `go_on`.
+    /// counts before `go_on`. `read` is told how far the rest of the log was read for its queues.
     pub fn first_batch(
         &mut self,
         log: &Log,
         budget: u64,
         mut shown: impl FnMut(LogPosition, u64),
+        read: impl FnMut(LogPosition),
     ) -> Result<(Dispatched, End), Failure> {
         let mut done = self.steps(log, log.end(), budget, &mut shown)?;
         let after = self.state();
@@ -135,9 +136,8 @@ impl Work {
         let ends = [Answer::Done, Answer::Damaged, Answer::NotReadable];
         let end = match &self.search {
             Some(search) if !ends.contains(&done.stop) => {
-                let shown = |position| shown(position, done.steps);
                 let counts = &after.progress.counts;
-                search.rest(&mut self.plan, log, position, counts, shown)?
+                search.rest(&mut self.plan, log, position, counts, read)?
             }
             // It stops where reading does: that is the log's end, or damage.
             _ => {

@@ -105,7 +105,8 @@ impl Targets {
 pub fn index_changes(index: &Bytes, slots: u64, used_before: u64) -> Vec<Range<u64>> {
     let used = index.used();
     if used - used_before >= slots / NEAR {
-        return vec![0..slot_place(slots)];
+        let all = 0..slot_place(slots);
+        return vec![all];
     }
     let new = used_before..used;
     let mut changed: Vec<u64> = new
