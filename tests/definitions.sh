@@ -1,11 +1,12 @@
 #!/usr/bin/env bash
-# Where the definitions stand that a reader has to believe. Prints what does not hold, exit 1 if anything does not:
+# Where the definitions stand that a reader has to believe, in the crates that are named, or in all. Prints what does not hold, exit 1 if anything
+# does not:
 # - no contract of a `pub fn` names what a specs/Inner.antt or a specs/Claims.antt holds, and no other file of specs/ does, so that what contracts
 #   name does not lead there either;
 # - a Claims.antt holds statements and the types that statements are built of, nothing else.
 set -u
 cd "$(dirname "$0")/.." || exit 1
-PYTHONPATH=tests exec python3 -B - <<'PYTHON'
+PYTHONPATH=tests exec python3 -B - "$@" <<'PYTHON'
 import antt, glob, os, re, sys
 
 faults = []
@@ -44,6 +45,8 @@ for source, blocks in statements.items():
             if not any(d.name in words for words in others):
                 faults.append(f"{source}:{d.line}: no statement is built of {d.name}")
 
+if sys.argv[1:]:
+    faults = [fault for fault in faults if fault.split("/")[1] in sys.argv[1:]]
 for fault in faults:
     print(fault)
 if faults or not statements:
