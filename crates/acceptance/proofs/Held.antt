@@ -13,16 +13,18 @@ use Rattle.record.specs.Encode.{front, back, tail, encode}
 use Rattle.commit_log.specs.Log.{geometryOk, segmentRest, outside, seen, entryWithin, misplaced, requestOk, placed, appended}
 use Rattle.consume_queue.specs.Queue.{entriesOk, fitted, queueRows, countsOk, entryPlace, entryBytes}
 use Rattle.index_file.specs.Index.{sizesOk, untouched, headerSound, itemBytes, secondsOf, headerAfter, itemFor, filledAfter, put}
-use Rattle.index_file.specs.Items.{isFound, uniqueKey, keysAt, keysIn, itemKeys, itemHashes, isAhead, isFull, badSlot, anyBadSlot, itemsAnswer, putAll}
+use Rattle.consume_queue.specs.Entering.{entryAnswer, enteredQueues, enteredCounts}
+use Rattle.index_file.specs.Items.{isAhead, isFull, badSlot, anyBadSlot, itemsAnswer, putAll}
 use Rattle.machine.specs.Steps.{run, ranFrom, oneMore}
 use Rattle.machine.specs.Calls.{call, admit}
-use Rattle.dispatch_step.specs.Step.{transaction, duties, rowPlan, entryPlan, planAnswer, tagOf, recordHashes, queuesAfter, countsAfter, filedAs, unless, fileAs, fileOf, movedBy, stepAs, stepOf}
+use Rattle.dispatch_request.specs.Request.{transaction, makesEntry, makesItems, rowNumber, tagOf, isFound, uniqueKey, keysAt, keysIn, itemKeys, itemHashes, recordHashes, requestOf, standsAs, standsAt}
+use Rattle.dispatch_step.specs.Step.{unless, written, filed, movedBy, stepAs, stepOf}
 use Rattle.dispatch.specs.Dispatch.{sizesFit, isRefused, progressBad, doorOf}
 use Rattle.acceptance.specs.Bench.{bench, BenchHolds}
 use Rattle.acceptance.specs.Examples.{property-examples, hash-examples, directory-examples, rows, examples, ExamplesHold}
 
 pub bench-holds : BenchHolds
-unfolding bench pick bytesOf units hashFrom hashOf signed carried tagCode absolute indexHash appended geometryOk misplaced requestOk placed segmentRest fieldsSound hostBitsClear textRules secondsOf putAll put headerAfter filledAfter itemFor itemBytes overwrite layout pieceBytes valueOf part field slotOf itemHashes itemKeys keysIn keysAt uniqueKey isFound scanned finder foundIn also values pairValue parts onto filled place bytesAt foundValue same filledPlaces keysFrom keyPlaces itemsAnswer isAhead isFull badSlot anyBadSlot headerSound sizesOk untouched encode front back tail call admit run ranFrom oneMore sizesFit isRefused progressBad doorOf transaction duties rowPlan entryPlan planAnswer tagOf recordHashes queuesAfter countsAfter filedAs unless fileAs fileOf movedBy stepAs stepOf entriesOk fitted queueRows countsOk entryPlace entryBytes outside seen entryWithin fieldsOf messageOf fitProperties fitTopic fitBody lengthsOf soundAs judgedRecord recordOf headOf headed entryAt rowLength rowKind rowId rowQueue kindOk rowOk before rowsWithin names rowFrom listed distinct judged queues counted listing rowOf
+unfolding bench pick bytesOf units hashFrom hashOf signed carried tagCode absolute indexHash appended geometryOk misplaced requestOk placed segmentRest fieldsSound hostBitsClear textRules secondsOf putAll put headerAfter filledAfter itemFor itemBytes overwrite layout pieceBytes valueOf part field slotOf itemHashes itemKeys keysIn keysAt uniqueKey isFound scanned finder foundIn also values pairValue parts onto filled place bytesAt foundValue same filledPlaces keysFrom keyPlaces itemsAnswer isAhead isFull badSlot anyBadSlot headerSound sizesOk untouched encode front back tail call admit run ranFrom oneMore sizesFit isRefused progressBad doorOf transaction makesEntry makesItems rowNumber tagOf recordHashes requestOf standsAs standsAt entryAnswer enteredQueues enteredCounts unless written filed movedBy stepAs stepOf entriesOk fitted queueRows countsOk entryPlace entryBytes outside seen entryWithin fieldsOf messageOf fitProperties fitTopic fitBody lengthsOf soundAs judgedRecord recordOf headOf headed entryAt rowLength rowKind rowId rowQueue kindOk rowOk before rowsWithin names rowFrom listed distinct judged queues counted listing rowOf
 bench-holds = refl
 
 pub examples-hold : ExamplesHold

@@ -11,8 +11,11 @@ use Rattle.record.specs.declared.Fields.{Fields}
 use Rattle.commit_log.specs.declared.Geometry.{Geometry}
 use Rattle.commit_log.specs.Log.{Outcome, outcome, appended}
 use Rattle.index_file.specs.Index.{filledSlots, usedCount, slotValue, secondsOf}
-use Rattle.index_file.specs.Items.{itemKeys, itemHashes, itemsAnswer, putAll}
+use Rattle.index_file.specs.Items.{itemsAnswer, putAll}
+use Rattle.dispatch_request.specs.Request.{itemKeys, itemHashes}
+use Rattle.machine.specs.Steps.{Ran}
 use Rattle.machine.specs.Calls.{call}
+use Rattle.dispatch_step.specs.Step.{State, positionOf}
 use Rattle.dispatch.specs.Dispatch.{dispatcher}
 
 -- what a definition gives, and what the bench says it must be: numbers or bytes
@@ -109,10 +112,9 @@ threeAndOne = sent 1 (keys (100 ∷ [])) (sent 0 (keys (97 ∷ 32 ∷ 98 ∷ 32 
 abbrev pub twice : Outcome
 twice = sent 0 (keys (97 ∷ 32 ∷ 32 ∷ 97 ∷ [])) empty
 
--- the answer's number, the steps, the position, the first queue's count and the used count after a call with this budget
-abbrev pub dispatched : ℕ → Outcome → List ℕ
-dispatched budget o =
-    let ran =
+-- a call with this budget from the start
+abbrev pub ran : ℕ → Outcome → Ran State
+ran budget o =
     call dispatcher
     (record {
       fixed = record {
@@ -122,8 +124,17 @@ dispatched budget o =
       view = record { log = o .log; end = o .made .«write_position» };
       budget = budget;
     })
-    (record { position = record { 0 = 0 }; counts = replicate 16 0; queues = replicate 40 0; index = fresh }) in
-    numberOf (ran .answer) ∷ ran .steps ∷ ran .state .position .0 ∷ getD (ran .state .counts) 0 0 ∷ usedCount (ran .state .index) ∷ []
+    (record { progress = record { position = record { 0 = 0 } }; counts = replicate 16 0; queues = replicate 40 0; index = fresh })
+
+-- the answer's number, the steps, the position, the first queue's count and the used count after it
+abbrev pub dispatched : ℕ → Outcome → List ℕ
+dispatched budget o =
+    let r = ran budget o in
+    numberOf (r .answer) ∷ r .steps ∷ positionOf (r .state) ∷ getD (r .state .counts) 0 0 ∷ usedCount (r .state .index) ∷ []
+
+-- the index after a record with the unique key k
+abbrev pub afterK : List ℕ
+afterK = ran 18446744073709551615 (sent 0 uniqueKeyK empty) .state .index
 
 unfoldable pub bench : List Row
 bench =
@@ -151,10 +162,10 @@ bench =
     -- "first time 10,000: store time 10,999 gives 0 seconds, 11,000 gives 1, 9,000 gives 0"
     ∷ record { given = secondsOf 10000 10999 ∷ secondsOf 10000 11000 ∷ secondsOf 10000 9000 ∷ []; wanted = 0 ∷ 1 ∷ 0 ∷ [] }
     -- "item 1 at byte 68 is 00 01 3F FC and 16 zeros"
-    ∷ record { given = part 20 68 (indexed 0 uniqueKeyK fresh); wanted = 0 ∷ 1 ∷ 63 ∷ 252 ∷ replicate 16 0 }
+    ∷ record { given = part 20 68 afterK; wanted = 0 ∷ 1 ∷ 63 ∷ 252 ∷ replicate 16 0 }
     -- "slot 0 is 1; filled slots 1, used count 2"
     ∷ record {
-      given = slotValue (indexed 0 uniqueKeyK fresh) 0 ∷ filledSlots (indexed 0 uniqueKeyK fresh) ∷ usedCount (indexed 0 uniqueKeyK fresh) ∷ [];
+      given = slotValue afterK 0 ∷ filledSlots afterK ∷ usedCount afterK ∷ [];
       wanted = 1 ∷ 1 ∷ 2 ∷ [];
     }
     -- "N = 4 takes three items; the fourth is 14": KEYS `a b c`, and then KEYS `d` of a record at 92

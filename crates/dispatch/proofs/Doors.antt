@@ -23,12 +23,13 @@ use Rattle.index_file.proofs.Judged.{sizes-facts, door-sized}
 use Rattle.machine.specs.Steps.{Ran, run}
 use Rattle.machine.specs.Calls.{accepted, refused, call}
 use Rattle.machine.proofs.Lists.{call-accepted, call-refused}
+use Rattle.dispatch_request.specs.Request.{View}
 use Rattle.dispatch_step.specs.declared.Sizes.{Sizes}
-use Rattle.dispatch_step.specs.Step.{Fixed, View, State, stepOf}
-use Rattle.dispatch_step.specs.Inner.{Sound}
+use Rattle.dispatch_step.specs.declared.Progress.{Progress}
+use Rattle.dispatch_step.specs.Step.{Fixed, State, stepOf}
+use Rattle.dispatch_step.specs.Door.{Sound}
 use Rattle.dispatch.specs.declared.Dispatched.{Dispatched}
-use Rattle.dispatch.specs.Dispatch.{sizesFit, isRefused, progressBad, doorOf, dispatcher}
-use Rattle.dispatch.specs.Inner.{ranOf}
+use Rattle.dispatch.specs.Dispatch.{sizesFit, isRefused, progressBad, doorOf, dispatcher, ranOf}
 
 -- ---- the checks
 
@@ -55,8 +56,8 @@ module _ (z : Sizes) (log index : ℕ) where
   pub index-long : sizesFit z log index ≡ true → 40 ≤ index
   index-long e = let w = sizes-facts _ _ _ (sizes-known e .sizes) .1 in omega arith
 
-pub progress-judged : (z : Sizes) (log : ℕ) (p e : LogPosition) (counts : List ℕ) {ok : Bool} → ok ≡ countsOk 16 (z .entries) counts
-    → (ltb (p .0) (z .geometry .«first_position») || ltb (e .0) (p .0) || ltb (z .geometry .«first_position» + log) (e .0) || not ok) ≡ progressBad z log p e counts
+pub progress-judged : (z : Sizes) (log : ℕ) (p : Progress) (e : LogPosition) (counts : List ℕ) {ok : Bool} → ok ≡ countsOk 16 (z .entries) counts
+    → (ltb (p .position .0) (z .geometry .«first_position») || ltb (e .0) (p .position .0) || ltb (z .geometry .«first_position» + log) (e .0) || not ok) ≡ progressBad z log p e counts
 unfolding progressBad outside
 progress-judged z log p e counts c = rw c
 
@@ -72,7 +73,7 @@ module _ (f : Fixed) (v : View) (s : State) where
     unfolding doorOf pick isRefused
     door-directory e = rw (sizes, ← rows, e)
 
-    module _ {n : ℕ} (listed : l ≡ Rows n) {bad : Bool} (progress : bad ≡ progressBad (f .sizes) (length (v .log)) (s .position) (v .end) (s .counts)) where
+    module _ {n : ℕ} (listed : l ≡ Rows n) {bad : Bool} (progress : bad ≡ progressBad (f .sizes) (length (v .log)) (s .progress) (v .end) (s .counts)) where
       pub door-position : bad ≡ true → doorOf f v s ≡ refused BadPosition
       unfolding doorOf pick isRefused
       door-position e = rw (sizes, ← rows, listed, ← progress, e)
@@ -91,7 +92,7 @@ module _ (f : Fixed) (v : View) (s : State) where
         unfolding progressBad
         door-sound e =
             let z = sizes-known _ _ _ sizes in
-            let p = neither (outside (f .sizes .geometry) (length (v .log)) (s .position) (v .end)) (not (countsOk 16 (f .sizes .entries) (s .counts))) (sym progress ∙ placed) in
+            let p = neither (outside (f .sizes .geometry) (length (v .log)) (s .progress .position) (v .end)) (not (countsOk 16 (f .sizes .entries) (s .counts))) (sym progress ∙ placed) in
             record {
               geometry = z .geometry;
               within = within _ _ _ _ (p .0);
@@ -107,7 +108,7 @@ module _ (f : Fixed) (v : View) (s : State) where
 -- ---- the call
 
 module _ (f : Fixed) (v : View) (b : ℕ) (s : State) where
-  pub call-shut : {a : Answer} {r : Dispatched} → r ≡ record { answer = a; steps = 0; position = s .position } → doorOf f v s ≡ refused a
+  pub call-shut : {a : Answer} {r : Dispatched} → r ≡ record { answer = a; steps = 0; progress = s .progress } → doorOf f v s ≡ refused a
       → ranOf r (s .counts) (s .queues) (s .index) ≡ call dispatcher (record { fixed = f; view = v; budget = b }) s
   call-shut d e = rw d (sym (call-refused dispatcher _ s e))
 

@@ -1,48 +1,111 @@
--- The loop of a call: a turn more, and how the loop ends. Assumes nothing.
-use Prim.Native.Nat.{ℕ, _+_, _≤_, _<_}
-use mathlib.Core.Path.{_≡_, sym, ap}
+-- Advances one behind the other, and one run behind another. Assumes nothing.
+use Prim.Native.Nat.{ℕ, _+_, _-_, _≤_, _<_}
+use mathlib.Core.Path.{_≡_, refl, sym, _∙_, subst}
+use mathlib.Core.Bool.{true, false}
 use mathlib.Core.List.{List}
+use mathlib.Core.Logic.{inl, inr, ⊎-elim}
 use native.Mathlib.Omega.{arith}
+use lib.ListN.{length}
 use Rattle.units.specs.declared.Answer.{Answer}
-use Rattle.units.specs.declared.Answer.the-variants.{BudgetSpent}
-use Rattle.units.specs.declared.LogPosition.{LogPosition}
-use Rattle.machine.specs.Steps.{Outcome, moved, stopped, run}
-use Rattle.machine.proofs.Steps.{run-spent, run-stopped}
-use Rattle.dispatch_step.specs.declared.Stepped.{Stepped}
-use Rattle.dispatch_step.specs.declared.Stepped.the-variants.{Moved, Stopped}
-use Rattle.dispatch_step.specs.Step.{Fixed, View, State, stepOf}
-use Rattle.dispatch_step.specs.Inner.{Did, stateOf, steppedOf, leftOf, positionAfter}
-use Rattle.dispatch_step.proofs.Going.{Going, going-step}
+use Rattle.units.specs.declared.Answer.the-variants.{Done, BudgetSpent}
+use Rattle.machine.specs.Steps.{Ran, run, Stops}
+use Rattle.machine.proofs.Steps.{walk-zero, walk-add, run-spent, run-stopped, run-stops, stops-run}
+use Rattle.dispatch_request.specs.Request.{View, Stands, stop, blank, request}
+use Rattle.dispatch_request.proofs.Standing.{hashes-few}
+use Rattle.dispatch_step.specs.Step.{Fixed, State, stateOf, stepOf, standsHere}
+use Rattle.dispatch_step.specs.Door.{Sound}
+use Rattle.dispatch_step.proofs.Going.{Going, going-start, going-far}
+use Rattle.dispatch_ahead.specs.declared.Ended.the-variants as ends
+use Rattle.dispatch_ahead.specs.declared.Advanced.{Advanced}
+use Rattle.dispatch_ahead.specs.Ahead.{hashesOf, Ends, Advances}
+use Rattle.dispatch.specs.declared.Ran as told
+use Rattle.dispatch.specs.Inner.{Runs}
 
-did-move : (o : Outcome State) {s : State} {r : Stepped} {counts queues index : List ℕ} {q : LogPosition} → Did o s r counts queues index → r ≡ Moved q
-    → o ≡ moved (stateOf q counts queues index)
-unfolding steppedOf leftOf positionAfter
-did-move (moved t) {counts} {queues} {index} {q} d e = ap moved (sym (rw e at (d .left)))
-did-move (stopped a) d e = let z : _≡_ {A = ℕ} 0 1 = cc (d .ended, e) in absurd (omega arith)
+-- ---- the loop
 
--- a step that was stopped left everything
-pub record Stays (o : Outcome State) (s t : State) (a : Answer) : Type 0 where
-  pub rule : o ≡ stopped a
-  pub still : t ≡ s
+module _ (f : Fixed) (v : View) (s : State) (b n : ℕ) where
+  module _ (t : State) (k : ℕ) (g : Going f v s t k b) {m : ℕ} (same : m ≡ n) {r : Advanced} {u : State} (a : Advances f v (b - k) m t r u) where
+    pub going-on : Going f v s u (k + r .steps) b
+    going-on = going-far f v s b t k g (r .steps) (a .walked) (omega (arith, a .within, g .within))
 
-did-stop : (o : Outcome State) {s : State} {r : Stepped} {counts queues index : List ℕ} {a : Answer} → Did o s r counts queues index → r ≡ Stopped a
-    → Stays o s (stateOf (s .position) counts queues index) a
-unfolding steppedOf leftOf positionAfter
-did-stop (moved t) d e = let z : _≡_ {A = ℕ} 0 1 = cc (d .ended, e) in absurd (omega arith)
-did-stop (stopped b) {a} d e = record { rule = cc (d .ended, e); still = rw e at (d .left) }
+    -- an advance that goes on has made a step
+    pub going-steps : r .ended ≡ ends.Going → k < b → 0 < r .steps
+    unfolding Ends
+    going-steps e l = subst (Ends f v (b - k) m (r .steps) u) e (a .ends) (omega arith)
 
-module _ (f : Fixed) (v : View) (s : State) (b : ℕ) where
-  module _ (t : State) (k : ℕ) (g : Going f v s t k b) {r : Stepped} {counts queues index : List ℕ} where
-    pub going-on : {q : LogPosition} → Did (stepOf f v t) t r counts queues index → r ≡ Moved q → k < b → Going f v s (stateOf q counts queues index) (k + 1) b
-    going-on d e l = going-step f v s b t k g (did-move (stepOf f v t) d e) l
+    -- a rule stops the next step
+    pub runs-stopped : {x : Answer} {w : told.Ran} → r .ended ≡ ends.Stopped x
+        → w ≡ record { ended = true; call = record { answer = x; steps = k + r .steps; progress = u .progress } } → Runs f v b n s w (u .counts) (u .queues) (u .index)
+    unfolding Ends
+    runs-stopped e d =
+        let z = subst (Ends f v (b - k) m (r .steps) u) e (a .ends) in
+        rw d
+        (record {
+          whole = λ h. sym (run-stopped (stepOf f v) (k + r .steps) b s (going-on .walked) (z .1) (omega (arith, z .0, g .within)));
+          walked = λ h. absurd (let y : _≡_ {A = ℕ} 0 1 = cc in omega arith);
+          under = λ h. absurd (let y : _≡_ {A = ℕ} 0 1 = cc in omega arith);
+          long = λ h. absurd (let y : _≡_ {A = ℕ} 0 1 = cc in omega arith);
+        })
 
-    pub going-stop : {a : Answer} → Did (stepOf f v t) t r counts queues index → r ≡ Stopped a → k < b
-        → record { answer = a; steps = k; state = stateOf (t .position) counts queues index } ≡ run (stepOf f v) b s
-    going-stop {a} d e l =
-        let m = did-stop (stepOf f v t) d e in
-        rw (run-stopped (stepOf f v) k b s (g .walked) (m .rule) l) (λ i. record { answer = a; steps = k; state = m .still i })
+    -- the next record has more items than the list has places
+    pub runs-long : {w : told.Ran} → r .ended ≡ ends.Long
+        → w ≡ record { ended = false; call = record { answer = Done; steps = k + r .steps; progress = u .progress } } → Runs f v b n s w (u .counts) (u .queues) (u .index)
+    unfolding Ends
+    runs-long e d =
+        let z = subst (Ends f v (b - k) m (r .steps) u) e (a .ends) in
+        rw d
+        (record {
+          whole = λ h. absurd (let y : _≡_ {A = ℕ} 0 1 = cc in omega arith);
+          walked = λ h. going-on .walked;
+          under = λ h. going-on .within;
+          long = λ h. omega (arith, z);
+        })
 
-  pub going-spent : (t : State) (k : ℕ) → Going f v s t k b → b ≤ k → record { answer = BudgetSpent; steps = k; state = t } ≡ run (stepOf f v) b s
-  going-spent t k g l =
-      let e : k ≡ b = omega arith in
-      rw e (sym (run-spent (stepOf f v) b s (rw (← e) (g .walked))))
+  pub runs-spent : (t : State) (k : ℕ) → Going f v s t k b → b ≤ k → {w : told.Ran}
+      → w ≡ record { ended = true; call = record { answer = BudgetSpent; steps = k; progress = t .progress } } → Runs f v b n s w (t .counts) (t .queues) (t .index)
+  runs-spent t k g l d =
+      let e : k ≡ b = omega (arith, g .within) in
+      rw (d, e)
+      (record {
+        whole = λ h. sym (run-spent (stepOf f v) b s (rw (← e) (g .walked)));
+        walked = λ h. absurd (let y : _≡_ {A = ℕ} 0 1 = cc in omega arith);
+        under = λ h. absurd (let y : _≡_ {A = ℕ} 0 1 = cc in omega arith);
+        long = λ h. absurd (let y : _≡_ {A = ℕ} 0 1 = cc in omega arith);
+      })
+
+-- ---- one run behind another
+
+module _ (f : Fixed) (v : View) where
+  -- "properties 0 to 32,767": no record has more items than 16385
+  few : (s : State) (x : Stands) → standsHere f v s ≡ x → length (hashesOf x) ≤ 16385
+  unfolding hashesOf
+  few s (stop a) e = omega arith
+  few s (blank n) e = omega arith
+  few s (request q hs) e = hashes-few (f .directory) (f .sizes .geometry) v (s .progress .position) q hs e
+
+  module _ (s : State) (b n : ℕ) {r : told.Ran} {counts queues index : List ℕ} (h : Runs f v b n s r counts queues index) where
+    pub always-ended : n ≡ 16385 → r .ended ≡ false → ⊥
+    always-ended m e = omega (arith, h .long e, few (stateOf (r .call .progress) counts queues index) _ refl)
+
+    -- what is left finds all in order
+    pub rest-sound : Sound f v s → r .ended ≡ false → Sound f v (stateOf (r .call .progress) counts queues index)
+    rest-sound k e = going-far f v s b s 0 (going-start f v s b k) (r .call .steps) (h .walked e) (omega (arith, h .under e)) .sound
+
+    module _ (e : r .ended ≡ false) {w : Ran State} (m : w ≡ run (stepOf f v) (b - r .call .steps) (stateOf (r .call .progress) counts queues index)) where
+      rest : Stops (stepOf f v) (b - r .call .steps) (stateOf (r .call .progress) counts queues index) w
+      rest = rw m (run-stops (stepOf f v) (b - r .call .steps) (stateOf (r .call .progress) counts queues index))
+
+      pub rest-under : r .call .steps + w .steps ≤ b
+      rest-under = ⊎-elim (λ x. omega (arith, x .0, h .under e)) (λ x. omega (arith, x .0, h .under e)) (rest .first)
+
+      pub rest-joined : record { answer = w .answer; steps = r .call .steps + w .steps; state = w .state } ≡ run (stepOf f v) b s
+      rest-joined =
+          stops-run (stepOf f v) b s _
+          (record {
+            walked = walk-add (stepOf f v) (r .call .steps) (w .steps) s (h .walked e) ∙ rest .walked;
+            first = ⊎-elim (λ x. inl (omega (arith, x .0, h .under e), x .1)) (λ x. inr (omega (arith, x .0, h .under e), x .1)) (rest .first);
+          })
+
+-- a budget of 0 is spent at once
+pub run-none : (f : Fixed) (v : View) (s : State) {b : ℕ} → b ≡ 0 → record { answer = BudgetSpent; steps = 0; state = s } ≡ run (stepOf f v) b s
+run-none f v s e = rw e (sym (run-spent (stepOf f v) 0 s (walk-zero (stepOf f v) s)))

@@ -11,9 +11,13 @@ use Rattle.directory.specs.declared.Listing.the-variants.{Refused, Rows}
 use Rattle.commit_log.specs.Log.{geometryOk, outside}
 use Rattle.consume_queue.specs.Queue.{entriesOk, queueRows, countsOk}
 use Rattle.index_file.specs.Index.{sizesOk, headerSound}
-use Rattle.machine.specs.Calls.{Door, accepted, refused, Machine}
+use Rattle.machine.specs.Steps.{Ran}
+use Rattle.machine.specs.Calls.{Door, accepted, refused, Machine, Call}
+use Rattle.dispatch_request.specs.Request.{View, viewOf}
 use Rattle.dispatch_step.specs.declared.Sizes.{Sizes}
-use Rattle.dispatch_step.specs.Step.{Fixed, View, State, stepOf}
+use Rattle.dispatch_step.specs.declared.Progress.{Progress}
+use Rattle.dispatch_step.specs.Step.{Fixed, State, fixedOf, stateOf, stepOf}
+use Rattle.dispatch.specs.declared.Dispatched.{Dispatched}
 
 -- ---- the door
 
@@ -28,15 +32,15 @@ isRefused Refused = true
 isRefused (Rows n) = false
 
 -- 2: "position, readable end or entry count is bad"
-unfoldable pub progressBad : Sizes → ℕ → LogPosition → LogPosition → List ℕ → Bool
-progressBad z log position end counts = outside (z .geometry) log position end || not (countsOk 16 (z .entries) counts)
+unfoldable pub progressBad : Sizes → ℕ → Progress → LogPosition → List ℕ → Bool
+progressBad z log progress end counts = outside (z .geometry) log (progress .position) end || not (countsOk 16 (z .entries) counts)
 
 -- "dispatch 1, 3, 2, 4"
 unfoldable pub doorOf : Fixed → View → State → Door
 doorOf f v s =
     pick (not (sizesFit (f .sizes) (length (v .log)) (length (s .index)))) (refused BadSizes)
     (pick (isRefused (queueRows (f .directory) (f .sizes .entries) (length (s .queues)))) (refused BadDirectory)
-    (pick (progressBad (f .sizes) (length (v .log)) (s .position) (v .end) (s .counts)) (refused BadPosition)
+    (pick (progressBad (f .sizes) (length (v .log)) (s .progress) (v .end) (s .counts)) (refused BadPosition)
     (pick (not (headerSound (f .sizes .index .«item_count») (s .index))) (refused BadIndexHeader) accepted)))
 
 -- ---- the machine
@@ -47,3 +51,10 @@ Extended f v w = Rattle.commit_log.specs.Log.Extends (f .sizes .geometry) (v .l
 
 abbrev pub dispatcher : Machine
 dispatcher = record { Fixed = Fixed; View = View; State = State; door = doorOf; step = stepOf; Extends = Extended }
+
+-- a call with these arguments, and what it returns and leaves
+abbrev pub callOf : Sizes → List ℕ → List ℕ → LogPosition → ℕ → Call dispatcher
+callOf sizes directory log end budget = record { fixed = fixedOf sizes directory; view = viewOf log end; budget = budget }
+
+abbrev pub ranOf : Dispatched → List ℕ → List ℕ → List ℕ → Ran State
+ranOf r counts queues index = record { answer = r .answer; steps = r .steps; state = stateOf (r .progress) counts queues index }

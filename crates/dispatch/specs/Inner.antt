@@ -1,18 +1,19 @@
--- A call and what it leaves, as the machine has them. Assumes nothing.
-use Prim.Native.Nat.{ℕ}
+-- What a run of steps promises. Assumes nothing.
+use Prim.Native.Nat.{ℕ, _<_, _≤_}
+use mathlib.Core.Path.{_≡_}
+use mathlib.Core.Bool.{true, false}
 use mathlib.Core.List.{List}
-use Rattle.units.specs.declared.LogPosition.{LogPosition}
-use Rattle.machine.specs.Steps.{Ran}
-use Rattle.machine.specs.Calls.{Call}
-use Rattle.dispatch_step.specs.declared.Sizes.{Sizes}
-use Rattle.dispatch_step.specs.Step.{State}
-use Rattle.dispatch_step.specs.Inner.{fixedOf, viewOf, stateOf}
-use Rattle.dispatch.specs.declared.Dispatched.{Dispatched}
-use Rattle.dispatch.specs.Dispatch.{dispatcher}
+use lib.ListN.{length}
+use Rattle.machine.specs.Steps.{moved, walk, run}
+use Rattle.dispatch_request.specs.Request.{View}
+use Rattle.dispatch_step.specs.Step.{Fixed, State, stateOf, stepOf, standsHere}
+use Rattle.dispatch_ahead.specs.Ahead.{hashesOf}
+use Rattle.dispatch.specs.declared.Ran.{Ran}
+use Rattle.dispatch.specs.Dispatch.{ranOf}
 
-abbrev pub callOf : Sizes → List ℕ → List ℕ → LogPosition → ℕ → Call dispatcher
-callOf sizes directory log end budget = record { fixed = fixedOf sizes directory; view = viewOf log end; budget = budget }
-
--- what a call returns and leaves, as the machine's
-abbrev pub ranOf : Dispatched → List ℕ → List ℕ → List ℕ → Ran State
-ranOf r counts queues index = record { answer = r .answer; steps = r .steps; state = stateOf (r .position) counts queues index }
+-- it ends as a call does, or before a record with more items than the n places of the list
+pub record Runs (f : Fixed) (v : View) (b n : ℕ) (s : State) (r : Ran) (counts queues index : List ℕ) : Type 0 where
+  pub whole : r .ended ≡ true → ranOf (r .call) counts queues index ≡ run (stepOf f v) b s
+  pub walked : r .ended ≡ false → walk (stepOf f v) (r .call .steps) s ≡ moved (stateOf (r .call .progress) counts queues index)
+  pub under : r .ended ≡ false → r .call .steps ≤ b
+  pub long : r .ended ≡ false → n < length (hashesOf (standsHere f v (stateOf (r .call .progress) counts queues index)))

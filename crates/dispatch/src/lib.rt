@@ -1,43 +1,66 @@
 // Dispatch: the door, and the steps of a call under its budget.
 ghost use mathlib.Core.Path.{_≡_};
+ghost use Prim.Native.Nat.{_+_, _<_, _≤_};
+ghost use lib.ListN.{length};
 ghost use Rattle.commit_log.specs.Door.{GeometryFits};
 ghost use Rattle.machine.specs.Steps.{run};
 ghost use Rattle.machine.specs.Calls.{call};
-ghost use Rattle.dispatch_step.specs.Step.{stepOf};
-ghost use Rattle.dispatch_step.specs.Inner.{fixedOf, viewOf, stateOf, Sound};
-ghost use Rattle.dispatch.specs.Dispatch.{sizesFit, progressBad, dispatcher};
-ghost use Rattle.dispatch.specs.Inner.{callOf, ranOf};
+ghost use Rattle.dispatch_request.specs.Request.{viewOf};
+ghost use Rattle.dispatch_step.specs.Step.{fixedOf, stateOf, stepOf};
+ghost use Rattle.dispatch_step.specs.Door.{Sound};
+ghost use Rattle.dispatch.specs.Dispatch.{sizesFit, progressBad, dispatcher, callOf, ranOf};
+ghost use Rattle.dispatch.specs.Inner.{Runs};
 use directory::Listing;
+use dispatch_ahead::Ended;
+use dispatch_step::Progress;
 use dispatch_step::Sizes;
-use dispatch_step::Stepped;
 use units::Answer;
 use units::LogPosition;
 
-// How a call ends: the answer, the steps done, and the position behind them.
+// How a call ends: the answer, the steps done, and the progress behind them.
 pub struct Dispatched {
     pub answer: Answer,
     pub steps: u64,
-    pub position: LogPosition,
+    pub progress: Progress,
 }
 
-// Steps, until the budget is spent or one is stopped.
+// How a run ends: as a call does, or before a record whose items the lent list has no places for.
+struct Ran {
+    ended: bool,
+    call: Dispatched,
+}
+
+fn ran_of(ended: bool, answer: Answer, steps: u64, progress: Progress) -> Ran
+    ensures { λ r. ⌜ r ≡ record { ended = ended; call = record { answer = answer; steps = steps; progress = progress } } ⌝ }
+{
+    Ran {
+        ended,
+        call: Dispatched {
+            answer,
+            steps,
+            progress,
+        },
+    }
+}
+
+// Steps, until the budget is spent, one is stopped, or the list is too short.
 fn run_steps(
     log: &[u8],
     readable_end: LogPosition,
     sizes: Sizes,
     directory: &[u8],
-    position: LogPosition,
+    progress: Progress,
     counts: &mut [u64; 16],
     queues: &mut [u8],
     index: &mut [u8],
     budget: u64,
-) -> Dispatched
-    requires { ⌜ Sound (fixedOf sizes (now directory)) (viewOf (now log) «readable_end») (stateOf position (now counts) (now queues) (now index)) ⌝ }
-    ensures { λ r. ⌜ ranOf r (now (counts .exit)) (now (queues .exit)) (now (index .exit)) ≡ run (stepOf (fixedOf sizes (now (directory .entry))) (viewOf (now (log .entry)) «readable_end»)) budget (stateOf position (now (counts .entry)) (now (queues .entry)) (now (index .entry))) ⌝ }
+    list: &mut [u32],
+) -> Ran
+    requires { ⌜ Sound (fixedOf sizes (now directory)) (viewOf (now log) «readable_end») (stateOf progress (now counts) (now queues) (now index)) × (0 < length (now list)) × (length (now list) ≤ 16385) ⌝ }
+    ensures { λ r. ⌜ Runs (fixedOf sizes (now (directory .entry))) (viewOf (now (log .entry)) «readable_end») budget (length (now (list .entry))) (stateOf progress (now (counts .entry)) (now (queues .entry)) (now (index .entry))) r (now (counts .exit)) (now (queues .exit)) (now (index .exit)) ⌝ }
 {
-    let mut requests = [0u64; 96];
-    let mut list = [0u32; 64];
-    let mut at = position;
+    let mut requests = [0u64; 112];
+    let mut now = progress;
     let mut steps: u64 = 0;
     while steps < budget {
         let advanced = dispatch_ahead::advance(
@@ -45,47 +68,141 @@ fn run_steps(
             readable_end,
             sizes,
             directory,
-            at,
+            now,
             counts,
             queues,
             index,
             budget - steps,
             &mut requests,
-            &mut list,
+            list,
         );
-        at = advanced.position;
+        now = advanced.progress;
         steps += advanced.steps;
-        if advanced.steps == 0 {
-            let stepped = dispatch_step::step(
-                log,
-                readable_end,
-                sizes,
-                directory,
-                at,
-                counts,
-                queues,
-                index,
-            );
-            match stepped {
-                Stepped::Moved(next) => {
-                    at = next;
-                    steps += 1;
-                }
-                Stepped::Stopped(answer) => {
-                    return Dispatched {
-                        answer,
-                        steps,
-                        position: at,
-                    };
-                }
+        let ended = advanced.ended;
+        match ended {
+            Ended::Going => {}
+            Ended::Stopped(answer) => {
+                return ran_of(true, answer, steps, now);
+            }
+            Ended::Long => {
+                return ran_of(false, Answer::Done, steps, now);
             }
         }
     }
+    ran_of(true, Answer::BudgetSpent, steps, now)
+}
+
+// How a call ends whose rest, behind so many steps, ended so.
+fn behind(steps: u64, rest: Dispatched) -> Dispatched
+    requires { ⌜ steps + rest .steps < 18446744073709551616 ⌝ }
+    ensures { λ r. ⌜ r ≡ record { answer = rest .answer; steps = steps + rest .steps; progress = rest .progress } ⌝ }
+{
+    let answer = rest.answer;
+    let progress = rest.progress;
     Dispatched {
-        answer: Answer::BudgetSpent,
-        steps,
-        position: at,
+        answer,
+        steps: steps + rest.steps,
+        progress,
     }
+}
+
+// Steps with a list for any record. It is a function of its own, and calls itself, so that its 64 KiB are on the stack only where they are used.
+fn run_long(
+    log: &[u8],
+    readable_end: LogPosition,
+    sizes: Sizes,
+    directory: &[u8],
+    progress: Progress,
+    counts: &mut [u64; 16],
+    queues: &mut [u8],
+    index: &mut [u8],
+    budget: u64,
+) -> Dispatched
+    requires { ⌜ Sound (fixedOf sizes (now directory)) (viewOf (now log) «readable_end») (stateOf progress (now counts) (now queues) (now index)) ⌝ }
+    ensures { λ r. ⌜ ranOf r (now (counts .exit)) (now (queues .exit)) (now (index .exit)) ≡ run (stepOf (fixedOf sizes (now (directory .entry))) (viewOf (now (log .entry)) «readable_end»)) budget (stateOf progress (now (counts .entry)) (now (queues .entry)) (now (index .entry))) ⌝ }
+{
+    let mut list = [0u32; 16385];
+    let ran = run_steps(
+        log,
+        readable_end,
+        sizes,
+        directory,
+        progress,
+        counts,
+        queues,
+        index,
+        budget,
+        &mut list,
+    );
+    let call = ran.call;
+    if ran.ended {
+        return call;
+    }
+    let rest = run_long(
+        log,
+        readable_end,
+        sizes,
+        directory,
+        call.progress,
+        counts,
+        queues,
+        index,
+        budget - call.steps,
+    );
+    behind(call.steps, rest)
+}
+
+// The steps of a call. A list for 64 hashes takes nearly every record; from the first that has more items on, one for any record is taken.
+fn run_call(
+    log: &[u8],
+    readable_end: LogPosition,
+    sizes: Sizes,
+    directory: &[u8],
+    progress: Progress,
+    counts: &mut [u64; 16],
+    queues: &mut [u8],
+    index: &mut [u8],
+    budget: u64,
+) -> Dispatched
+    requires { ⌜ Sound (fixedOf sizes (now directory)) (viewOf (now log) «readable_end») (stateOf progress (now counts) (now queues) (now index)) ⌝ }
+    ensures { λ r. ⌜ ranOf r (now (counts .exit)) (now (queues .exit)) (now (index .exit)) ≡ run (stepOf (fixedOf sizes (now (directory .entry))) (viewOf (now (log .entry)) «readable_end»)) budget (stateOf progress (now (counts .entry)) (now (queues .entry)) (now (index .entry))) ⌝ }
+{
+    if budget == 0 {
+        return Dispatched {
+            answer: Answer::BudgetSpent,
+            steps: 0,
+            progress,
+        };
+    }
+    let mut list = [0u32; 64];
+    let ran = run_steps(
+        log,
+        readable_end,
+        sizes,
+        directory,
+        progress,
+        counts,
+        queues,
+        index,
+        budget,
+        &mut list,
+    );
+    let call = ran.call;
+    if ran.ended {
+        return call;
+    }
+    let rest = run_long(
+        log,
+        readable_end,
+        sizes,
+        directory,
+        call.progress,
+        counts,
+        queues,
+        index,
+        budget - call.steps,
+    );
+    behind(call.steps, rest)
 }
 
 // Door check 1, of a log and an index of so many bytes.
@@ -101,14 +218,14 @@ fn sizes_fit(sizes: Sizes, log: usize, index: usize) -> bool
 fn progress_bad(
     sizes: Sizes,
     log: usize,
-    position: LogPosition,
+    progress: Progress,
     readable_end: LogPosition,
     counts: &[u64; 16],
 ) -> bool
     requires { ⌜ GeometryFits (sizes .geometry) log ⌝ }
-    ensures { λ r. ⌜ r ≡ progressBad sizes log position «readable_end» (now (counts .entry)) ⌝ }
+    ensures { λ r. ⌜ r ≡ progressBad sizes log progress «readable_end» (now (counts .entry)) ⌝ }
 {
-    let p = position.0;
+    let p = progress.position.0;
     let e = readable_end.0;
     let first = sizes.geometry.first_position;
     let outside = (p < first) | (e < p) | (first + (log as u64) < e);
@@ -116,13 +233,13 @@ fn progress_bad(
 }
 
 // A call that is refused at the door.
-fn refused(answer: Answer, position: LogPosition) -> Dispatched
-    ensures { λ r. ⌜ r ≡ record { answer = answer; steps = 0; position = position } ⌝ }
+fn refused(answer: Answer, progress: Progress) -> Dispatched
+    ensures { λ r. ⌜ r ≡ record { answer = answer; steps = 0; progress = progress } ⌝ }
 {
     Dispatched {
         answer,
         steps: 0,
-        position,
+        progress,
     }
 }
 
@@ -132,33 +249,33 @@ pub fn dispatch(
     readable_end: LogPosition,
     sizes: Sizes,
     directory: &[u8],
-    position: LogPosition,
+    progress: Progress,
     counts: &mut [u64; 16],
     queues: &mut [u8],
     index: &mut [u8],
     budget: u64,
 ) -> Dispatched
-    ensures { λ r. ⌜ ranOf r (now (counts .exit)) (now (queues .exit)) (now (index .exit)) ≡ call dispatcher (callOf sizes (now (directory .entry)) (now (log .entry)) «readable_end» budget) (stateOf position (now (counts .entry)) (now (queues .entry)) (now (index .entry))) ⌝ }
+    ensures { λ r. ⌜ ranOf r (now (counts .exit)) (now (queues .exit)) (now (index .exit)) ≡ call dispatcher (callOf sizes (now (directory .entry)) (now (log .entry)) «readable_end» budget) (stateOf progress (now (counts .entry)) (now (queues .entry)) (now (index .entry))) ⌝ }
 {
     if !sizes_fit(sizes, log.len(), index.len()) {
-        return refused(Answer::BadSizes, position);
+        return refused(Answer::BadSizes, progress);
     }
     let listing = consume_queue::queue_rows(directory, sizes.entries, queues.len());
     if let Listing::Refused = listing {
-        return refused(Answer::BadDirectory, position);
+        return refused(Answer::BadDirectory, progress);
     }
-    if progress_bad(sizes, log.len(), position, readable_end, counts) {
-        return refused(Answer::BadPosition, position);
+    if progress_bad(sizes, log.len(), progress, readable_end, counts) {
+        return refused(Answer::BadPosition, progress);
     }
     if !index_file::header_sound(index, sizes.index.item_count) {
-        return refused(Answer::BadIndexHeader, position);
+        return refused(Answer::BadIndexHeader, progress);
     }
-    run_steps(
+    run_call(
         log,
         readable_end,
         sizes,
         directory,
-        position,
+        progress,
         counts,
         queues,
         index,

@@ -1,3 +1,4 @@
-pub mod Advancing
+pub mod Nexts
+pub mod Kept
 pub mod Reading
-pub mod Requests
+pub mod Advancing

@@ -1,97 +1,33 @@
--- Records read ahead: six numbers for each, what holds before each turn, and how the loop ends. Assumes nothing.
-use Prim.Native.Nat.{ℕ, zero, suc, _+_, _-_, _*_, _≤_, _<_}
+-- Records read ahead: what holds before each turn, and how the loop ends. Assumes nothing.
+use Prim.Native.Nat.{ℕ, zero, suc, _+_, _-_, _≤_, _<_}
 use mathlib.Core.Path.{_≡_, refl, sym, _∙_, ap}
-use mathlib.Core.List.{List, [], _∷_, _++_, append-assoc}
-use native.Mathlib.Nat.{add-zero}
-use native.Mathlib.Numerals.{add-one, unary-clauses}
+use mathlib.Core.Bool.{Bool, true, false, _&&_}
+use mathlib.Core.List.{List, _++_}
+use native.Mathlib.Numerals.{add-one}
 use native.Mathlib.Omega.{arith}
-use lib.Dec.{eqb}
-use lib.ListN.{length, getD, set, take, drop, take-append-drop, length-take, length-drop, List·getD-append}
-use lib.Seq.{sets, sets-eq, length-take-le, take-append-le, take-at, drop-at, getD-take, getD-append-add}
+use lib.Dec.{ltb}
+use lib.ListN.{length, take, drop, take-append-drop, length-take, length-drop}
+use lib.Seq.{length-take-le, take-append-le, take-at, drop-at}
 use borrow.Author.Count.{below-more}
+use borrow.Author.Tests.{lt-ltb}
 use Rattle.codec.specs.Bytes.{part}
-use Rattle.codec.proofs.Choices.{passed}
 use Rattle.codec.proofs.Parts.{part-left}
+use Rattle.units.specs.declared.Answer.{Answer}
 use Rattle.units.specs.declared.LogPosition.{LogPosition}
-use Rattle.record.specs.declared.Entry.{Entry}
-use Rattle.record.specs.declared.Entry.the-variants.{Stop, Blank, Message}
-use Rattle.record.proofs.Soundness.{message-framed}
-use Rattle.commit_log.specs.Log.{segmentRest, seen, entryWithin}
+use Rattle.commit_log.specs.declared.Geometry.{Geometry}
 use Rattle.commit_log.specs.Door.{Within}
-use Rattle.dispatch_step.specs.Step.{Fixed, View}
-use Rattle.dispatch_step.proofs.Moves.{seen-most}
-use Rattle.dispatch_ahead.specs.declared.DispatchRequest.{DispatchRequest}
-use Rattle.dispatch_ahead.specs.declared.Next.{Next}
-use Rattle.dispatch_ahead.specs.declared.Next.the-variants.{Other, Request}
-use Rattle.dispatch_ahead.specs.Ahead.{requestOf, requestAt, nextAs, nextOf, NextIs, itemsOf, totalOf, behind, itemsBefore, Kept, Batched}
-
--- ---- a request's numbers
-
--- a run of numbers stored, and what lies below it
-module _ (l vs : List ℕ) (at : ℕ) (h : at + length vs ≤ length l) where
-  stored-at : (i : ℕ) → getD (sets l at vs) (at + i) 0 ≡ getD (vs ++ drop (at + length vs) l) i 0
-  stored-at i =
-      let k = length-take-le at l (omega arith) in
-      rw (sets-eq vs l at h, append-assoc) (rw k at (getD-append-add (take at l) (vs ++ drop (at + length vs) l) i 0))
-
-  stored-below : (i : ℕ) → i < at → getD (sets l at vs) i 0 ≡ getD l i 0
-  stored-below i b =
-      let k = length-take-le at l (omega arith) in
-      rw (sets-eq vs l at h, append-assoc)
-      (List·getD-append (take at l) (vs ++ drop (at + length vs) l) 0 i (omega arith) ∙ getD-take at l i 0 b)
-
-numbers : DispatchRequest → List ℕ
-numbers q = q .total ∷ q .row ∷ q .«queue_offset» ∷ q .«tag_code» ∷ q .«store_time» ∷ q .items ∷ []
-
--- request n, put
-module _ (l : List ℕ) (n : ℕ) (q : DispatchRequest) (h : 6 * n + 6 ≤ length l) where
-  abbrev put : List ℕ
-  put = set (set (set (set (set (set l (6 * n) (q .total)) (6 * n + 1) (q .row)) (6 * n + 2) (q .«queue_offset»)) (6 * n + 3) (q .«tag_code»)) (6 * n + 4) (q .«store_time»)) (6 * n + 5) (q .items)
-
-  run : put ≡ sets l (6 * n) (numbers q)
-  unfolding numbers
-  run = simp unary-clauses
-
-  at : (i : ℕ) → getD put (6 * n + i) 0 ≡ getD (numbers q ++ drop (6 * n + 6) l) i 0
-  unfolding numbers
-  at i = rw run (stored-at l (numbers q) (6 * n) h i)
-
-  below : (i : ℕ) → i < 6 * n → getD put i 0 ≡ getD l i 0
-  unfolding numbers
-  below i b = rw run (stored-below l (numbers q) (6 * n) h i b)
-
-  pub request-put : requestAt put n ≡ q
-  unfolding requestAt numbers
-  request-put =
-      let first = rw (add-zero (6 * n)) at (at 0) in
-      λ j. record { total = first j; row = at 1 j; «queue_offset» = at 2 j; «tag_code» = at 3 j; «store_time» = at 4 j; items = at 5 j }
-
-  pub requests-kept : (i : ℕ) → i < n → requestAt put i ≡ requestAt l i
-  unfolding requestAt
-  requests-kept i b =
-      rw (below (6 * i) (omega arith), below (6 * i + 1) (omega arith), below (6 * i + 2) (omega arith), below (6 * i + 3) (omega arith), below (6 * i + 4) (omega arith), below (6 * i + 5) (omega arith))
-
--- ---- a record that can be read
-
-no-record : {q : DispatchRequest} → Other ≡ Request q → ⊥
-no-record e = let z : _≡_ {A = ℕ} 0 1 = cc in absurd (omega arith)
-
--- it ends below the readable end
-pub request-below : (f : Fixed) (v : View) (p : LogPosition) (q : DispatchRequest) → nextOf f v p ≡ Request q → p .0 + q .total ≤ v .end .0
-unfolding nextOf nextAs entryWithin requestOf totalOf
-request-below f v p q e =
-    go (entryWithin (v .log) (f .sizes .geometry) p (v .end)) refl (passed (eqb (p .0) (v .end .0)) Other _ (Request q) no-record e .rest)
-  where
-    here : List ℕ
-    here = seen (v .log) (f .sizes .geometry) p (v .end)
-
-    go : (y : Entry) → entryWithin (v .log) (f .sizes .geometry) p (v .end) ≡ y → nextAs f v p y ≡ Request q → p .0 + q .total ≤ v .end .0
-    go (Stop a) g h = absurd (no-record h)
-    go (Blank n) g h = absurd (no-record h)
-    go (Message m) g h =
-        let k = message-framed p (segmentRest (f .sizes .geometry) p) here m g in
-        let t = ap totalOf h in
-        omega (arith, k .least, k .below, seen-most (v .log) (f .sizes .geometry) p (v .end))
+use Rattle.dispatch_request.specs.declared.DispatchRequest.{DispatchRequest}
+use Rattle.dispatch_request.specs.declared.Next.{Next}
+use Rattle.dispatch_request.specs.declared.Next.the-variants as next
+use Rattle.dispatch_request.specs.Request.{View, request, standsAt}
+use Rattle.dispatch_request.specs.Reading.{nextOf, Reads}
+use Rattle.dispatch_request.proofs.Standing.{request-found, items-counted}
+use Rattle.dispatch_step.specs.Step.{Fixed}
+use Rattle.dispatch_ahead.specs.declared.Batch.{Batch}
+use Rattle.dispatch_ahead.specs.declared.Behind.{Behind}
+use Rattle.dispatch_ahead.specs.declared.Behind.the-variants.{Unread, Stop, Blank, Long}
+use Rattle.dispatch_ahead.specs.Ahead.{requestAt, standsIn, totalOf, hashesOf, behind, itemsBefore, Kept, BehindIs, Batched}
+use Rattle.dispatch_ahead.proofs.Nexts.{next-request, next-long, next-stop, next-blank, in-front}
 
 -- ---- what is kept
 
@@ -103,7 +39,7 @@ front n at m l h k =
 
 module _ (f : Fixed) (v : View) (p : LogPosition) where
   -- the items of a record are among those before any later one
-  items-grow : (n i : ℕ) → i < n → itemsBefore f v p (suc i) ≤ itemsBefore f v p n
+  pub items-grow : (n i : ℕ) → i < n → itemsBefore f v p (suc i) ≤ itemsBefore f v p n
   unfolding itemsBefore
   items-grow zero i h = absurd (omega arith)
   items-grow (suc n) i h =
@@ -117,19 +53,19 @@ module _ (f : Fixed) (v : View) (p : LogPosition) where
     -- the list may change behind the record's items
     kept-front : {list : List ℕ} (list′ : List ℕ) (m : ℕ) → Kept f v p requests list i → itemsBefore f v p (suc i) ≤ m → m ≤ length list
         → length list′ ≡ length list → take m list′ ≡ take m list → Kept f v p requests list′ i
-    unfolding itemsBefore itemsOf
+    unfolding itemsBefore
     kept-front {list} list′ m k h s l e =
         let n = requestAt requests i .items in
         let o = itemsBefore f v p i in
-        let w : itemsBefore f v p (suc i) ≡ o + n = ap (λ x. o + itemsOf x) (k .next) in
         record {
           next = k .next;
+          number = k .number;
           within = omega (arith, k .within);
-          listed = front n o m list′ (omega arith) (omega arith) ∙ ap (part n o) e ∙ sym (front n o m list (omega arith) s) ∙ k .listed;
+          listed = front n o m list′ (omega (arith, k .number)) (omega arith) ∙ ap (part n o) e ∙ sym (front n o m list (omega (arith, k .number)) s) ∙ k .listed;
         }
 
     kept-again : {list : List ℕ} {requests′ : List ℕ} → Kept f v p requests list i → requestAt requests′ i ≡ requestAt requests i → Kept f v p requests′ list i
-    kept-again k e = record { next = rw e (k .next); within = k .within; listed = rw e (k .listed) }
+    kept-again k e = record { next = rw e (k .next); number = rw e (k .number); within = k .within; listed = rw e (k .listed) }
 
 -- ---- the loop
 
@@ -145,13 +81,26 @@ pub record Reading (f : Fixed) (v : View) (p : LogPosition) (most room : ℕ) (r
   pub kept : (i : ℕ) → i < records → Kept f v p requests list i
 
 -- a list from whose place `items` on a part was lent, with that part back
-abbrev back : ℕ → List ℕ → List ℕ → List ℕ
+abbrev pub back : ℕ → List ℕ → List ℕ → List ℕ
 back items list sub = take items list ++ (sub ++ drop (length list - items) (drop items list))
 
+-- what was read by a geometry was read by the sizes that have it
+pub reads-with : (directory : List ℕ) (v : View) (at : LogPosition) {g g′ : Geometry} {r : Next} {sub : List ℕ} → g′ ≡ g
+    → Reads (standsAt directory g v at) r sub → Reads (standsAt directory g′ v at) r sub
+reads-with directory v at e n = rw e n
+
 -- the record that stands next ends below the readable end
-pub next-below : {f : Fixed} {v : View} {at : LogPosition} {r : Next} {sub : List ℕ} {q : DispatchRequest} → NextIs f v at r sub → r ≡ Request q
-    → at .0 + q .total ≤ v .end .0
-next-below {f} {v} {at} {q} n e = request-below f v at q (sym (n .next) ∙ e)
+pub next-below : (directory : List ℕ) (g : Geometry) (v : View) (at : LogPosition) {r : Next} {sub : List ℕ} {q : DispatchRequest}
+    → Reads (standsAt directory g v at) r sub → r ≡ next.Request q → at .0 + q .total ≤ v .end .0
+next-below directory g v at {sub} {q} n e =
+    request-found directory g v at q _ (next-request (length sub) (standsAt directory g v at) q (sym (n .next) ∙ e) .0) .below
+
+-- so much was read, and what was found stands behind it
+ends : {f : Fixed} {v : View} {p : LogPosition} {most room : ℕ} {requests list : List ℕ} {at : LogPosition} {records items : ℕ} {b : Batch}
+    → Reading f v p most room requests list at records items → (x : Behind) → BehindIs (standsIn f v (behind f v p records)) items (length list) x
+    → ((x ≡ Unread → ⊥) → records < most) → (x ≡ Unread → 0 < most → 0 < records) → b ≡ record { records = records; items = items; behind = x }
+    → Batched f v p most b requests list
+ends g x h l s e = rw e (record { kept = g .kept; counted = g .counted; fits = g .fits; few = g .few; under = g .under; behind-is = h; left-off = l; some = s })
 
 module _ (f : Fixed) (v : View) (p : LogPosition) (most : ℕ) (requests list : List ℕ) where
   pub reading-start : Within (f .sizes .geometry) (length (v .log)) p (v .end) → Reading f v p most (length list) requests list p 0 0
@@ -160,8 +109,19 @@ module _ (f : Fixed) (v : View) (p : LogPosition) (most : ℕ) (requests list : 
       record { place = refl; counted = refl; fits = omega arith; long = refl; few = omega arith; under = omega arith; within = w; kept = λ i h. absurd (omega arith) }
 
   module _ (room : ℕ) (at : LogPosition) (records items : ℕ) (g : Reading f v p most room requests list at records items) where
-    pub reading-end : Batched f v p most (record { records = records; items = items }) requests list
-    reading-end = record { kept = g .kept; counted = g .counted; fits = g .fits; few = g .few; under = g .under }
+    -- nothing more was looked at
+    pub reading-full : {b : Batch} → ((ltb records 16 && ltb records most) && ltb items (length list)) ≡ false → 0 < length list
+        → b ≡ record { records = records; items = items; behind = Unread } → Batched f v p most b requests list
+    unfolding BehindIs itemsBefore
+    reading-full full some e =
+        ends g Unread tt (λ h. absurd (h refl)) (λ x m. go m records refl (g .counted)) e
+      where
+        open-still : (x y z : Bool) → ((x && y) && z) ≡ false → x ≡ true → y ≡ true → z ≡ true → ⊥
+        open-still x y z h i j k = let n : _≡_ {A = Bool} true false = (rw (i, j, k) at h) in let o : _≡_ {A = ℕ} 0 1 = cc in omega arith
+
+        go : 0 < most → (n : ℕ) → records ≡ n → items ≡ itemsBefore f v p n → 0 < records
+        go m zero x c = absurd (open-still _ _ _ full (lt-ltb records 16 (omega arith)) (lt-ltb records most (omega arith)) (lt-ltb items (length list) (omega arith)))
+        go m (suc n) x c = omega arith
 
     module _ (sub : List ℕ) (l : (length sub ≡ length (take (length list - items) (drop items list))) × (length (back items list sub) ≡ length list)) where
       -- what was kept lies in front of the part
@@ -179,39 +139,67 @@ module _ (f : Fixed) (v : View) (p : LogPosition) (most : ℕ) (requests list : 
             kept = λ i h. kept-front f v p (back items list sub) items (g .kept i h) (omega (arith, g .counted, items-grow f v p records i h)) (g .fits) (l .1) e;
           }
 
-      -- a turn: the record that stands next is kept too
-      module _ {r : Next} {q : DispatchRequest} (n : NextIs f v at r sub) (e : r ≡ Request q) (fit : q .items ≤ length (back items list sub) - items) (requests′ : List ℕ)
-          (put : requestAt requests′ records ≡ q) (still : (i : ℕ) → i < records → requestAt requests′ i ≡ requestAt requests i) where
-        here : nextOf f v (behind f v p records) ≡ Request q
-        here = sym (ap (nextOf f v) (g .place)) ∙ sym (n .next) ∙ e
+      room-left : length sub ≡ length list - items
+      room-left = l .0 ∙ rw (length-take, length-drop) (omega arith)
 
-        new : Kept f v p requests′ (back items list sub) records
-        unfolding itemsBefore itemsOf part
-        new =
-            let w : itemsBefore f v p (suc records) ≡ items + q .items = ap (λ x. itemsBefore f v p records + itemsOf x) here ∙ ap (λ x. x + q .items) (sym (g .counted)) in
-            let s : length (take (length list - items) (drop items list)) ≡ length list - items = rw (length-take, length-drop) (omega arith) in
-            let k : q .items ≤ length sub = omega (arith, l .0, l .1) in
-            record {
-              next = rw put here;
-              within = omega (arith, g .fits, l .1);
-              listed =
-                  rw (put, ← g .counted, ← g .place, drop-at (take items list) (sub ++ drop (length list - items) (drop items list)) items (length-take-le items list (g .fits)), take-append-le (q .items) sub _ k)
-                  (n .listed q e k);
-            }
+      module _ {r : Next} (n : Reads (standsIn f v at) r sub) where
+        stands : {y : Next} → r ≡ y → nextOf (length sub) (standsIn f v (behind f v p records)) ≡ y
+        stands e = ap (λ (x : LogPosition). nextOf (length sub) (standsIn f v x)) (sym (g .place)) ∙ sym (n .next) ∙ e
 
-        pub reading-on : records < 16 → records < most → Reading f v p most room requests′ (back items list sub) (record { 0 = at .0 + q .total }) (records + 1) (items + q .items)
-        unfolding behind itemsBefore totalOf itemsOf
-        reading-on x y =
-            let z = next-below n e in
-            rw (add-one records)
-            (record {
-              place = rw (here, ← g .place);
-              counted = rw (here, ← g .counted);
-              fits = omega (arith, g .fits, l .1);
-              long = l .1 ∙ g .long;
-              few = omega arith;
-              under = omega arith;
-              within = record { from = omega (arith, g .within .from); to = z; end = g .within .end };
-              kept = λ i h.
-                  below-more (Kept f v p requests′ (back items list sub)) records (λ j b. kept-again f v p (reading-lent .kept j b) (still j b)) new i (rw (add-one records) h);
-            })
+        pub reading-stop : {a : Answer} {b : Batch} → records < most → r ≡ next.Stop a
+            → b ≡ record { records = records; items = items; behind = Stop a } → Batched f v p most b requests (back items list sub)
+        unfolding BehindIs
+        reading-stop {a} m e = ends reading-lent (Stop a) (next-stop (length sub) _ a (stands e)) (λ h. m) (λ u. absurd (let z : _≡_ {A = ℕ} 0 1 = cc in omega arith))
+
+        pub reading-blank : {k : ℕ} {b : Batch} → records < most → r ≡ next.Blank k
+            → b ≡ record { records = records; items = items; behind = Blank k } → Batched f v p most b requests (back items list sub)
+        unfolding BehindIs
+        reading-blank {k} m e = ends reading-lent (Blank k) (next-blank (length sub) _ k (stands e)) (λ h. m) (λ u. absurd (let z : _≡_ {A = ℕ} 0 1 = cc in omega arith))
+
+        pub reading-long : {b : Batch} → records < most → r ≡ next.Long
+            → b ≡ record { records = records; items = items; behind = Long } → Batched f v p most b requests (back items list sub)
+        unfolding BehindIs
+        reading-long m e =
+            let w = next-long (length sub) (standsIn f v (behind f v p records)) (stands e) in
+            ends reading-lent Long (omega (arith, w, room-left, l .1, g .fits)) (λ h. m) (λ u. absurd (let z : _≡_ {A = ℕ} 0 1 = cc in omega arith))
+
+        -- a turn: the record that stands next is kept too
+        module _ {q : DispatchRequest} (e : r ≡ next.Request q) (requests′ : List ℕ)
+            (put : requestAt requests′ records ≡ q) (still : (i : ℕ) → i < records → requestAt requests′ i ≡ requestAt requests i) where
+          here : (standsIn f v (behind f v p records) ≡ request q (hashesOf (standsIn f v (behind f v p records)))) × (length (hashesOf (standsIn f v (behind f v p records))) ≤ length sub)
+          here = next-request (length sub) (standsIn f v (behind f v p records)) q (stands e)
+
+          items-are : q .items ≡ length (hashesOf (standsIn f v (behind f v p records)))
+          items-are = items-counted (f .directory) (f .sizes .geometry) v (behind f v p records) q _ (here .0)
+
+          pub items-fit : items + q .items ≤ length list
+          items-fit = omega (arith, here .1, items-are, room-left, g .fits)
+
+          new : Kept f v p requests′ (back items list sub) records
+          unfolding itemsBefore part
+          new =
+              record {
+                next = rw put (here .0);
+                number = rw put items-are;
+                within = omega (arith, items-fit, items-are, g .counted, l .1);
+                listed =
+                    rw (put, items-are, ← g .counted, drop-at (take items list) (sub ++ drop (length list - items) (drop items list)) items (length-take-le items list (g .fits)), take-append-le (length (hashesOf (standsIn f v (behind f v p records)))) sub _ (here .1))
+                    (in-front (standsIn f v (behind f v p records)) sub (rw (← g .place) (n .listed)) (here .1));
+              }
+
+          pub reading-on : records < 16 → records < most → Reading f v p most room requests′ (back items list sub) (record { 0 = at .0 + q .total }) (records + 1) (items + q .items)
+          unfolding behind itemsBefore totalOf
+          reading-on x y =
+              let z = next-below (f .directory) (f .sizes .geometry) v at n e in
+              rw (add-one records)
+              (record {
+                place = rw (here .0, ← g .place);
+                counted = rw (← g .counted, items-are);
+                fits = omega (arith, items-fit, l .1);
+                long = l .1 ∙ g .long;
+                few = omega arith;
+                under = omega arith;
+                within = record { from = omega (arith, g .within .from); to = z; end = g .within .end };
+                kept = λ i h.
+                    below-more (Kept f v p requests′ (back items list sub)) records (λ j b. kept-again f v p (reading-lent .kept j b) (still j b)) new i (rw (add-one records) h);
+              })

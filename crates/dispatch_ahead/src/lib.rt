@@ -2,160 +2,105 @@
 ghost use mathlib.Core.Path.{_≡_};
 ghost use Prim.Native.Nat.{ℕ, _+_, _*_, _≤_, _<_};
 ghost use lib.ListN.{length};
-ghost use Rattle.properties.specs.Finder.{scanned};
+ghost use Rattle.codec.specs.Choice.{pick};
 ghost use Rattle.commit_log.specs.Door.{GeometryFits, Within};
-ghost use Rattle.machine.specs.Steps.{walk, moved};
-ghost use Rattle.dispatch_step.specs.Step.{dutiesOf, recordHashes, stepOf};
-ghost use Rattle.dispatch_step.specs.Inner.{fixedOf, viewOf, stateOf, Listed, Sound};
-ghost use Rattle.dispatch_ahead.specs.Ahead.{requestOf, requestAt, Gathered, NextIs, Batched, Filable, Files};
+ghost use Rattle.dispatch_request.specs.Request.{viewOf};
+ghost use Rattle.dispatch_request.specs.Reading.{Listed};
+ghost use Rattle.dispatch_step.specs.Step.{fixedOf, stateOf};
+ghost use Rattle.dispatch_step.specs.Door.{Sound};
+ghost use Rattle.dispatch_ahead.specs.Ahead.{requestAt, Batched, passBy, Advances};
+ghost use Rattle.dispatch_ahead.specs.declared.Behind.the-variants.{Blank};
+use dispatch_request::DispatchRequest;
+use dispatch_request::Next;
+use dispatch_step::Filed;
+use dispatch_step::Progress;
 use dispatch_step::Sizes;
-use properties::Scanned;
-use record::Entry;
-use record::Record;
+use units::Answer;
 use units::LogPosition;
+use units::QueueOffset;
 
-// A record as filing needs it, in numbers: RocketMQ's dispatch request. The row is that of its entry, 16 if its queue is not listed, 17 if it
-// makes no entry; the items are counted, their hashes are in a list.
-struct DispatchRequest {
-    total: u64,
-    row: u64,
-    queue_offset: u64,
-    tag_code: u64,
-    store_time: u64,
-    items: usize,
-}
-
-// What stands at a position: a record, or anything else.
-enum Next {
-    Other,
-    Request(DispatchRequest),
-}
-
-// How many records were read ahead, and how many items they have.
+// What was read ahead: so many records with so many items, and what stands behind them, as far as it was looked at.
 struct Batch {
     records: usize,
     items: usize,
+    behind: Behind,
 }
 
-// The position behind the steps of an advance, and their number.
+// What stands behind the records that were read ahead: not looked at, a stop, a blank of so many bytes, a record with more items than the list
+// has places left.
+enum Behind {
+    Unread,
+    Stop(Answer),
+    Blank(u64),
+    Long,
+}
+
+// Why an advance ends: so many steps are made, a rule stops the next one, or the next record has more items than the list has places.
+pub enum Ended {
+    Going,
+    Stopped(Answer),
+    Long,
+}
+
+// The progress behind the steps of an advance, their number, and why it ends.
 pub struct Advanced {
-    pub position: LogPosition,
+    pub progress: Progress,
     pub steps: u64,
+    pub ended: Ended,
 }
 
 // The most records that are read ahead.
 const BATCH: usize = 16;
 
 // The numbers of a request.
-const REQUEST: usize = 6;
+const REQUEST: usize = 7;
 
-// The hashes of a record's items, if it makes any: their number, and in the list as many as it has places for.
-fn gather_hashes(
-    makes: bool,
-    topic: &[u8],
-    properties: &[u8],
-    found: Scanned,
-    list: &mut [u32],
-) -> usize
-    requires { ⌜ found ≡ scanned (now properties) ⌝ }
-    ensures { λ r. ⌜ Gathered (recordHashes makes (now (topic .entry)) (now (properties .entry))) r (now (list .exit)) ⌝ }
+fn bit(b: bool) -> u64
+    ensures { λ r. ⌜ r ≡ pick b 1 0 ⌝ }
 {
-    if !makes {
-        return 0;
-    }
-    index_file::collect_items(java_hash::topic_hash(topic), properties, found, list)
-}
-
-// A record's request; the hashes of its items go to the list's front.
-fn request_of(
-    message: Record,
-    topic: &[u8],
-    properties: &[u8],
-    directory: &[u8],
-    list: &mut [u32],
-) -> DispatchRequest
-    requires { ⌜ Listed (now directory) ⌝ }
-    ensures { λ r. ⌜ (r ≡ requestOf (now (directory .entry)) message (now (topic .entry)) (now (properties .entry))) × Gathered (recordHashes (dutiesOf message .items) (now (topic .entry)) (now (properties .entry))) (r .items) (now (list .exit)) ⌝ }
-{
-    let duties = dispatch_step::duties_of(message.fields.system_flag);
-    let row = dispatch_step::row_code(duties.entry, directory, topic, message.fields.queue_id);
-    let found = properties::scan(properties);
-    let tags = found.tags;
-    let tag_code = dispatch_step::tag_of(properties, tags);
-    let items = gather_hashes(duties.items, topic, properties, found, list);
-    DispatchRequest {
-        total: message.total,
-        row,
-        queue_offset: message.fields.queue_offset.0,
-        tag_code,
-        store_time: message.fields.store_time,
-        items,
-    }
-}
-
-// The record at a position, if one can be read there; the hashes of its items go to the list's front.
-fn next_request(
-    log: &[u8],
-    readable_end: LogPosition,
-    sizes: Sizes,
-    directory: &[u8],
-    position: LogPosition,
-    list: &mut [u32],
-) -> Next
-    requires { ⌜ GeometryFits (sizes .geometry) (length (now log)) × Within (sizes .geometry) (length (now log)) position «readable_end» × Listed (now directory) ⌝ }
-    ensures { λ r. ⌜ NextIs (fixedOf sizes (now (directory .entry))) (viewOf (now (log .entry)) «readable_end») position r (now (list .exit)) ⌝ }
-{
-    let p = position.0;
-    if p == readable_end.0 {
-        return Next::Other;
-    }
-    let geometry = sizes.geometry;
-    let entry = commit_log::entry_within(log, geometry, position, readable_end);
-    let Entry::Message(message) = entry else {
-        return Next::Other;
-    };
-    let at = (p - geometry.first_position) as usize;
-    let topic_at = at + message.topic.at;
-    let topic_end = topic_at + message.topic.len;
-    let properties_at = at + message.properties.at;
-    let properties_end = properties_at + message.properties.len;
-    Next::Request(request_of(
-        message,
-        &log[topic_at..topic_end],
-        &log[properties_at..properties_end],
-        directory,
-        list,
-    ))
+    if b { 1 } else { 0 }
 }
 
 // Request n, kept.
 fn put_request(requests: &mut [u64], n: usize, request: DispatchRequest)
-    requires { ⌜ 6 * n + 6 ≤ length (now requests) ⌝ }
+    requires { ⌜ 7 * n + 7 ≤ length (now requests) ⌝ }
     ensures { λ _. ⌜ (requestAt (now (requests .exit)) n ≡ request) × ((i : ℕ) → i < n → requestAt (now (requests .exit)) i ≡ requestAt (now (requests .entry)) i) ⌝ }
 {
     let at = REQUEST * n;
     requests[at] = request.total;
-    requests[at + 1] = request.row;
-    requests[at + 2] = request.queue_offset;
-    requests[at + 3] = request.tag_code;
-    requests[at + 4] = request.store_time;
-    requests[at + 5] = request.items as u64;
+    requests[at + 1] = bit(request.entry);
+    requests[at + 2] = request.row;
+    requests[at + 3] = request.queue_offset.0;
+    requests[at + 4] = request.tag_code;
+    requests[at + 5] = request.store_time;
+    requests[at + 6] = request.items as u64;
 }
 
 // Request n, as it was kept.
-fn request_at(requests: &[u64; 96], n: usize) -> DispatchRequest
+fn request_at(requests: &[u64; 112], n: usize) -> DispatchRequest
     requires { ⌜ n < 16 ⌝ }
     ensures { λ r. ⌜ r ≡ requestAt (now (requests .entry)) n ⌝ }
 {
     let at = REQUEST * n;
-    let items = requests[at + 5] as usize;
+    let items = requests[at + 6] as usize;
     DispatchRequest {
         total: requests[at],
-        row: requests[at + 1],
-        queue_offset: requests[at + 2],
-        tag_code: requests[at + 3],
-        store_time: requests[at + 4],
+        entry: requests[at + 1] == 1,
+        row: requests[at + 2],
+        queue_offset: QueueOffset(requests[at + 3]),
+        tag_code: requests[at + 4],
+        store_time: requests[at + 5],
         items,
+    }
+}
+
+fn batch_of(records: usize, items: usize, behind: Behind) -> Batch
+    ensures { λ r. ⌜ r ≡ record { records = records; items = items; behind = behind } ⌝ }
+{
+    Batch {
+        records,
+        items,
+        behind,
     }
 }
 
@@ -167,85 +112,101 @@ fn read_ahead(
     directory: &[u8],
     position: LogPosition,
     most: u64,
-    requests: &mut [u64; 96],
+    requests: &mut [u64; 112],
     list: &mut [u32],
 ) -> Batch
-    requires { ⌜ GeometryFits (sizes .geometry) (length (now log)) × Within (sizes .geometry) (length (now log)) position «readable_end» × Listed (now directory) ⌝ }
+    requires { ⌜ GeometryFits (sizes .geometry) (length (now log)) × Within (sizes .geometry) (length (now log)) position «readable_end» × Listed (now directory) × (0 < length (now list)) ⌝ }
     ensures { λ r. ⌜ Batched (fixedOf sizes (now (directory .entry))) (viewOf (now (log .entry)) «readable_end») position most r (now (requests .exit)) (now (list .exit)) ⌝ }
 {
     let mut at = position;
     let mut records: usize = 0;
     let mut items: usize = 0;
-    while (records < BATCH) & ((records as u64) < most) {
-        let next = next_request(log, readable_end, sizes, directory, at, &mut list[items..]);
-        let Next::Request(request) = next else {
-            break;
-        };
-        if list.len() - items < request.items {
-            break;
+    let geometry = sizes.geometry;
+    while (records < BATCH) & ((records as u64) < most) & (items < list.len()) {
+        let next = dispatch_request::read_request(
+            log,
+            geometry,
+            readable_end,
+            directory,
+            at,
+            &mut list[items..],
+        );
+        match next {
+            Next::Stop(answer) => {
+                return batch_of(records, items, Behind::Stop(answer));
+            }
+            Next::Blank(n) => {
+                return batch_of(records, items, Behind::Blank(n));
+            }
+            Next::Long => {
+                return batch_of(records, items, Behind::Long);
+            }
+            Next::Request(request) => {
+                put_request(requests, records, request);
+                items += request.items;
+                at = LogPosition(at.0 + request.total);
+                records += 1;
+            }
         }
-        put_request(requests, records, request);
-        items += request.items;
-        at = LogPosition(at.0 + request.total);
-        records += 1;
     }
-    Batch { records, items }
+    batch_of(records, items, Behind::Unread)
 }
 
-// Files a request whose slots are good, if rules 6 and 7 do not stop it; else nothing is written.
-fn file_request(
-    request: DispatchRequest,
-    position: LogPosition,
-    list: &[u32],
-    sizes: Sizes,
-    counts: &mut [u64; 16],
-    queues: &mut [u8],
-    index: &mut [u8],
-) -> bool
-    requires { ⌜ Filable sizes request position (now counts) (now queues) (now index) (now list) ⌝ }
-    ensures { λ r. ⌜ Files sizes request (now (list .entry)) (stateOf position (now (counts .entry)) (now (queues .entry)) (now (index .entry))) r (now (counts .exit)) (now (queues .exit)) (now (index .exit)) ⌝ }
+fn advance_of(progress: Progress, steps: usize, ended: Ended) -> Advanced
+    ensures { λ r. ⌜ r ≡ record { progress = progress; steps = steps; ended = ended } ⌝ }
 {
-    let plan = dispatch_step::plan_entry(request.row, request.queue_offset, sizes.entries, counts);
-    let halt = dispatch_step::plan_answer(plan);
-    if halt.number() != 0 {
-        return false;
+    Advanced {
+        progress,
+        steps: steps as u64,
+        ended,
     }
-    if !index_file::items_fit(index, sizes.index, position, list.len()) {
-        return false;
-    }
-    dispatch_step::enter(
-        plan,
-        queues,
-        counts,
-        sizes.entries,
-        position,
-        request.total,
-        request.tag_code,
-    );
-    index_file::put_listed(index, sizes.index, position, request.store_time, list);
-    true
 }
 
-// Steps from a position on, up to so many: records are read ahead, all their slots are judged, one close behind the other, and the records
-// are filed one by one. A slot that is good before them stays good. It ends, perhaps without a step, before anything but a record that is
-// filed so. How many steps it makes is left open; what they leave is not.
+// Behind the records of a batch, all filed: a blank is a step more.
+fn pass(progress: Progress, steps: usize, behind: Behind) -> Advanced
+    requires { ⌜ (steps ≤ 16) × ((n : ℕ) → behind ≡ Blank n → progress .position .0 + n < 18446744073709551616) ⌝ }
+    ensures { λ r. ⌜ r ≡ passBy progress steps behind ⌝ }
+{
+    match behind {
+        Behind::Unread => advance_of(progress, steps, Ended::Going),
+        Behind::Stop(answer) => advance_of(progress, steps, Ended::Stopped(answer)),
+        Behind::Blank(n) => {
+            let position = progress.position.0 + n;
+            let over = Progress {
+                position: LogPosition(position),
+            };
+            advance_of(over, steps + 1, Ended::Going)
+        }
+        Behind::Long => {
+            if steps == 0 {
+                advance_of(progress, steps, Ended::Long)
+            } else {
+                advance_of(progress, steps, Ended::Going)
+            }
+        }
+    }
+}
+
+// Steps from a state on, up to so many: records are read ahead as requests, all their slots are judged, one close behind the other, and the
+// requests are filed one by one. A slot that is good before them stays good.
 pub fn advance(
     log: &[u8],
     readable_end: LogPosition,
     sizes: Sizes,
     directory: &[u8],
-    position: LogPosition,
+    progress: Progress,
     counts: &mut [u64; 16],
     queues: &mut [u8],
     index: &mut [u8],
     most: u64,
-    requests: &mut [u64; 96],
+    requests: &mut [u64; 112],
     list: &mut [u32],
 ) -> Advanced
-    requires { ⌜ Sound (fixedOf sizes (now directory)) (viewOf (now log) «readable_end») (stateOf position (now counts) (now queues) (now index)) × (length (now list) ≤ 64) ⌝ }
-    ensures { λ r. ⌜ (walk (stepOf (fixedOf sizes (now (directory .entry))) (viewOf (now (log .entry)) «readable_end»)) (r .steps) (stateOf position (now (counts .entry)) (now (queues .entry)) (now (index .entry))) ≡ moved (stateOf (r .position) (now (counts .exit)) (now (queues .exit)) (now (index .exit)))) × (r .steps ≤ most) ⌝ }
+    requires { ⌜ Sound (fixedOf sizes (now directory)) (viewOf (now log) «readable_end») (stateOf progress (now counts) (now queues) (now index)) × (0 < length (now list)) × (length (now list) ≤ 16385) ⌝ }
+    ensures { λ r. ⌜ Advances (fixedOf sizes (now (directory .entry))) (viewOf (now (log .entry)) «readable_end») most (length (now (list .entry))) (stateOf progress (now (counts .entry)) (now (queues .entry)) (now (index .entry))) r (stateOf (r .progress) (now (counts .exit)) (now (queues .exit)) (now (index .exit))) ⌝ }
 {
-    let batch = read_ahead(
+    let position = progress.position;
+    let read = read_ahead(
         log,
         readable_end,
         sizes,
@@ -255,26 +216,36 @@ pub fn advance(
         requests,
         list,
     );
-    let items = batch.items;
-    let records = batch.records;
-    let mut at = position;
+    let items = read.items;
+    let records = read.records;
+    let mut now = progress;
     let mut first: usize = 0;
     let mut done: usize = 0;
-    if index_file::listed_slots_bad(index, sizes.index.slot_count, &list[..items]) {
-        return Advanced { position, steps: 0 };
-    }
+    let good = !index_file::slots_bad(index, sizes.index.slot_count, &list[..items]);
     while done < records {
         let request = request_at(requests, done);
         let end = first + request.items;
-        if !file_request(request, at, &list[first..end], sizes, counts, queues, index) {
-            break;
+        let filed = dispatch_step::file(
+            request,
+            &list[first..end],
+            good,
+            sizes,
+            now,
+            counts,
+            queues,
+            index,
+        );
+        match filed {
+            Filed::Moved(next) => {
+                now = next;
+            }
+            Filed::Stopped(answer) => {
+                return advance_of(now, done, Ended::Stopped(answer));
+            }
         }
-        at = LogPosition(at.0 + request.total);
         first = end;
         done += 1;
     }
-    Advanced {
-        position: at,
-        steps: done as u64,
-    }
+    let behind = read.behind;
+    pass(now, done, behind)
 }

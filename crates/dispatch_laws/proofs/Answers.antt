@@ -8,21 +8,22 @@ use lib.Dec.{ltb, leb, eqb}
 use lib.ListN.{length, getD, take}
 use Rattle.codec.specs.Bytes.{big, field, part}
 use Rattle.units.specs.declared.LogPosition.{LogPosition}
+use Rattle.units.specs.declared.QueueOffset.{QueueOffset}
 use Rattle.units.specs.declared.Answer.{Answer}
 use Rattle.units.specs.declared.Answer.the-variants.{Done, Unreadable, Damaged}
 use Rattle.units.specs.Answers.{numberOf}
-use Rattle.directory.specs.declared.Located.{Located}
-use Rattle.directory.specs.declared.Located.the-variants.{Unlisted, Row}
-use Rattle.directory.specs.Directory.{rowOf}
 use Rattle.record.specs.declared.Record.{Record}
 use Rattle.record.specs.declared.Entry.{Entry}
 use Rattle.record.specs.declared.Entry.the-variants.{Stop, Blank, Message}
 use Rattle.record.specs.Record.{fieldsOf, fieldsSound, textRules, lengthsOf, fitBody, fitTopic, fitProperties, soundAs, judged, recordOf, headOf, headed, entryAt}
+use Rattle.commit_log.specs.declared.Geometry.{Geometry}
 use Rattle.commit_log.specs.Log.{segmentRest, seen, entryWithin}
 use Rattle.commit_log.proofs.Outcomes.{pick-either}
+use Rattle.consume_queue.specs.Entering.{entryAnswer}
 use Rattle.index_file.specs.Items.{isAhead, isFull, anyBadSlot, itemsAnswer}
 use Rattle.machine.specs.Steps.{Outcome, moved, stopped}
-use Rattle.dispatch_step.specs.Step.{Fixed, View, State, rowPlan, entryPlan, planAnswer, unless, dutiesOf, topicOf, planOf, hashesOf, fileAs, fileOf, entryHere, stepAs, stepOf}
+use Rattle.dispatch_request.specs.Request.{View, Stands, stop, blank as padded, request, standsAs, standsAt}
+use Rattle.dispatch_step.specs.Step.{Fixed, State, positionOf, unless, filed, stepAs, standsHere, stepOf}
 use Rattle.dispatch_laws.specs.Claims.{NeverSpent}
 
 -- the answers of rules 1 to 7, but for a spent budget: 0, 8, 10 to 16
@@ -32,9 +33,12 @@ byRule a = eqb (numberOf a) 0 || eqb (numberOf a) 8 || (leb 10 (numberOf a) && l
 abbrev Ruled : Answer → Type 0
 Ruled a = byRule a ≡ true
 
--- an entry and an outcome that, if they stop, stop so
+-- an entry, what stands in the log, and an outcome that, if they stop, stop so
 abbrev Reads : Entry → Type 0
 Reads y = (a : Answer) → y ≡ Stop a → Ruled a
+
+abbrev Halts : Stands → Type 0
+Halts x = (a : Answer) → x ≡ stop a → Ruled a
 
 abbrev Goes : Outcome State → Type 0
 Goes o = (a : Answer) → o ≡ stopped a → Ruled a
@@ -88,18 +92,30 @@ entry-reads p r seen =
     (pick-either (λ k. Reads (headed p seen k)) (ltb room total) _ _ unreadable (record-reads p (take total seen))))
     damaged)))
 
+-- ---- rules 1 to 4
+
+stands-halts : (directory : List ℕ) (g : Geometry) (v : View) (p : LogPosition) → Halts (standsAt directory g v p)
+unfolding standsAt standsAs entryWithin
+stands-halts directory g v p =
+    pick-either Halts (eqb (p .0) (v .end .0)) _ _ (halt Done refl) (go (entryWithin (v .log) g p (v .end)) (entry-reads p (segmentRest g p) (seen (v .log) g p (v .end))))
+  where
+    halt : (b : Answer) → Ruled b → Halts (stop b)
+    halt b r a e = let same : b ≡ a = cc in subst Ruled same r
+
+    go : (y : Entry) → Reads y → Halts (standsAs directory g v p y)
+    go (Stop b) r = halt b (r b refl)
+    go (Blank n) r = λ a e. absurd (let z : _≡_ {A = ℕ} 0 1 = cc in omega arith)
+    go (Message m) r = λ a e. absurd (let z : _≡_ {A = ℕ} 0 1 = cc in omega arith)
+
 -- ---- rules 6 and 7
 
-plan-ruled : (makes : Bool) (r : ℕ) (directory counts : List ℕ) (m : Record) (topic : List ℕ) → Ruled (planAnswer (entryPlan makes r directory counts m topic))
-unfolding entryPlan rowPlan planAnswer
-plan-ruled makes r directory counts m topic =
-    pick-either (λ k. Ruled (planAnswer k)) makes _ _ (go (rowOf topic (m .fields .«queue_id») directory)) refl
-  where
-    go : (row : Located) → Ruled (planAnswer (rowPlan r counts (m .fields .«queue_offset») row))
-    go Unlisted = refl
-    go (Row i) =
-        pick-either (λ k. Ruled (planAnswer k)) (not (eqb (m .fields .«queue_offset» .0) (getD counts i 0))) _ _ refl
-        (pick-either (λ k. Ruled (planAnswer k)) (eqb (getD counts i 0) r) _ _ refl refl)
+entry-ruled : (makes : Bool) (row : ℕ) (offset : QueueOffset) (r : ℕ) (counts : List ℕ) → Ruled (entryAnswer makes row offset r counts)
+unfolding entryAnswer
+entry-ruled makes row offset r counts =
+    pick-either Ruled (not makes) _ _ refl
+    (pick-either Ruled (eqb row 16) _ _ refl
+    (pick-either Ruled (not (eqb (offset .0) (getD counts row 0))) _ _ refl
+    (pick-either Ruled (eqb (getD counts row 0) r) _ _ refl refl)))
 
 items-ruled : (k n : ℕ) (index : List ℕ) (position : ℕ) (hs : List ℕ) → Ruled (itemsAnswer k n index position hs)
 unfolding itemsAnswer
@@ -120,20 +136,16 @@ done : {t : State} → Goes (moved t)
 done a e = absurd (let z : _≡_ {A = ℕ} 0 1 = cc in omega arith)
 
 step-goes : (f : Fixed) (v : View) (s : State) → Goes (stepOf f v s)
-unfolding stepOf stepAs entryWithin fileOf fileAs
-step-goes f v s = pick-either Goes (eqb (s .position .0) (v .end .0)) _ _ (halts Done refl) (go (entryHere f v s) refl)
+unfolding stepOf stepAs filed
+step-goes f v s = go (standsHere f v s) (stands-halts (f .directory) (f .sizes .geometry) v (s .progress .position))
   where
-    go : (y : Entry) → entryHere f v s ≡ y → Goes (stepAs f v s y)
-    go (Stop a) h =
-        let g = f .sizes .geometry in
-        halts a (entry-reads (s .position) (segmentRest g (s .position)) (seen (v .log) g (s .position) (v .end)) a h)
-    go (Blank n) h = done
-    go (Message m) h =
-        unless-goes (planAnswer (planOf f v s m)) _
-        (plan-ruled (dutiesOf m .entry) (f .sizes .entries) (f .directory) (s .counts) m (topicOf f v s m))
-        (unless-goes _ _
-        (items-ruled (f .sizes .index .«slot_count») (f .sizes .index .«item_count») (s .index) (m .position .0) (hashesOf f v s m))
-        done)
+    go : (x : Stands) → Halts x → Goes (stepAs f s x)
+    go (stop a) h = halts a (h a refl)
+    go (padded n) h = done
+    go (request q hs) h =
+        unless-goes (entryAnswer (q .entry) (q .row) (q .«queue_offset») (f .sizes .entries) (s .counts)) _
+        (entry-ruled (q .entry) (q .row) (q .«queue_offset») (f .sizes .entries) (s .counts))
+        (unless-goes _ _ (items-ruled (f .sizes .index .«slot_count») (f .sizes .index .«item_count») (s .index) (positionOf s) hs) done)
 
 pub never-spent : NeverSpent
 never-spent f v s e =

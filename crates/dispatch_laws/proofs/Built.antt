@@ -1,36 +1,35 @@
--- Demand 2's query clause on an index that a list of dispatch calls built from empty. Assumes nothing.
-use Prim.Native.Nat.{ℕ, zero, suc, _+_, _*_, _<_, _≤_}
+-- Demand 2's query clause on an index that dispatch calls built from empty. Assumes nothing.
+use Prim.Native.Nat.{ℕ, zero, suc, _+_, _*_, _≤_}
 use native.Mathlib.Omega.{arith}
 use mathlib.Core.Path.{_≡_, refl, subst}
 use mathlib.Core.Logic.{⊎-elim}
-use mathlib.Core.Bool.{Bool, true, false, _&&_}
+use mathlib.Core.Bool.{true, _&&_}
 use mathlib.Core.List.{List, []}
 use lib.ListN.{length}
-use borrow.Author.Tests.{leb-true}
-use Rattle.codec.specs.Choice.{pick}
 use Rattle.codec.proofs.Choices.{both}
-use Rattle.record.specs.Record.{fieldsSound}
 use Rattle.commit_log.specs.Log.{geometryOk}
 use Rattle.consume_queue.specs.Queue.{entriesOk}
 use Rattle.index_file.specs.Index.{sizesOk}
-use Rattle.index_file.specs.Items.{All}
 use Rattle.index_laws.specs.History.{Empty, Put, build}
-use Rattle.index_file.specs.Inner.{Sized}
+use Rattle.index_file.specs.Room.{Sized}
 use Rattle.index_laws.specs.Claims.{Built}
 use Rattle.index_file.proofs.Judged.{sizes-facts}
-use Rattle.index_file.proofs.Items.{checked-room, item-hashes-small}
+use Rattle.index_file.proofs.Items.{checked-room}
 use Rattle.index_laws.proofs.History.{fresh-empty, fresh-one, built-holds, put-built, filed-built, rising-times}
 use Rattle.index_laws.proofs.Exact.{query-exact}
-use Rattle.machine.specs.Steps.{Outcome, moved, stopped, andThen, walk}
-use Rattle.machine.specs.Calls.{total, final, Leads}
-use Rattle.machine.proofs.Steps.{moved-inj, never}
+use Rattle.machine.specs.Steps.{Outcome, moved, stopped, andThen, walk, run}
+use Rattle.machine.specs.Calls.{accepted, total, final, Leads}
+use Rattle.machine.proofs.Steps.{moved-inj, never, run-stops}
+use Rattle.machine.proofs.Lists.{call-accepted}
 use Rattle.dispatch_step.specs.declared.Sizes.{Sizes}
-use Rattle.dispatch_step.specs.Step.{Fixed, View, State, recordHashes, filedAs, entryHere, movedBy, stepOf, hashesOf}
+use Rattle.dispatch_request.specs.Request.{View}
+use Rattle.dispatch_request.proofs.Standing.{stands-small}
+use Rattle.dispatch_step.specs.Step.{Fixed, State, positionOf, standsHere, written, movedBy, stepOf}
 use Rattle.dispatch_step.specs.Inner.{Moves, over-blank, over-record}
 use Rattle.dispatch_step.proofs.Moves.{moves}
-use Rattle.dispatch.specs.Dispatch.{sizesFit, dispatcher}
+use Rattle.dispatch.specs.Dispatch.{sizesFit, doorOf, dispatcher}
 use Rattle.dispatch_laws.specs.History.{putBy, onward, puts}
-use Rattle.dispatch_laws.specs.Claims.{QueryAfterCalls, QueryAfterRisingTimes}
+use Rattle.dispatch_laws.specs.Claims.{CallBuilds, QueryAfterCalls, QueryAfterRisingTimes}
 use Rattle.dispatch_laws.proofs.Doors.{opened, bounded-log}
 use Rattle.dispatch_laws.proofs.Demand3.{demand-3, accepted-at}
 
@@ -50,11 +49,6 @@ built-sized k n start ps b =
       fill = let a = h .sound .filled in omega arith;
     }
 
-hashes-small : (makes : Bool) (topic properties : List ℕ) → All (λ (h : ℕ). h < 2147483648) (recordHashes makes topic properties)
-unfolding recordHashes pick
-hashes-small true topic properties = item-hashes-small topic properties
-hashes-small false topic properties = tt
-
 module _ (f : Fixed) (v : View) (top : v .end .0 ≤ 1099511627776) (start : List ℕ) where
   abbrev k : ℕ
   k = f .sizes .index .«slot_count»
@@ -67,21 +61,20 @@ module _ (f : Fixed) (v : View) (top : v .end .0 ≤ 1099511627776) (start : Lis
     pub built : Built k n start ps
     pub is : index ≡ build k start ps
 
-  step-stands : (s t : State) (ps : List Put) → Stands (s .index) ps → stepOf f v s ≡ moved t → Stands (t .index) (putBy f v s (entryHere f v s) ps)
-  unfolding putBy movedBy filedAs fieldsSound
+  step-stands : (s t : State) (ps : List Put) → Stands (s .index) ps → stepOf f v s ≡ moved t → Stands (t .index) (putBy s (standsHere f v s) ps)
+  unfolding putBy movedBy written
   step-stands s t ps h e = go (moves f v s t e)
     where
-      go : Moves f v s t → Stands (t .index) (putBy f v s (entryHere f v s) ps)
+      go : Moves f v s t → Stands (t .index) (putBy s (standsHere f v s) ps)
       go (over-blank m here least below left) = rw (here, left) h
-      go (over-record m here w) =
-          let p = m .position .0 in
-          let time = m .fields .«store_time» in
-          let hs = hashesOf f v s m in
+      go (over-record q hs here w) =
+          let p = positionOf s in
+          let time = q .«store_time» in
           let room = checked-room k n (s .index) p hs (rw (h .is) (built-sized k n start ps (h .built))) (w .checked) in
           rw (here, w .left)
           (record {
-            built = filed-built k n start ps p time hs (h .built) (rw (h .is) at room) (hashes-small _ _ _)
-                (rw (w .here) (let a = w .below in omega arith)) (leb-true _ _ (both _ _ (both _ _ (w .numbers) .0) .0));
+            built = filed-built k n start ps p time hs (h .built) (rw (h .is) at room) (stands-small (f .directory) (f .sizes .geometry) v (s .progress .position) q hs here)
+                (let a = w .below in omega arith) (w .time);
             is = rw (h .is) (put-built k p time hs start ps);
           })
 
@@ -92,9 +85,23 @@ module _ (f : Fixed) (v : View) (top : v .end .0 ≤ 1099511627776) (start : Lis
     where
       go : (o : Outcome State) → stepOf f v s ≡ o
           → ((s t : State) (ps : List Put) → Stands (s .index) ps → walk (stepOf f v) m s ≡ moved t → Stands (t .index) (puts f v m s ps))
-          → andThen o (walk (stepOf f v) m) ≡ moved t → Stands (t .index) (onward o ps (λ u. puts f v m u (putBy f v s (entryHere f v s) ps)))
+          → andThen o (walk (stepOf f v) m) ≡ moved t → Stands (t .index) (onward o ps (λ u. puts f v m u (putBy s (standsHere f v s) ps)))
       go (moved u) w ih g = ih u t _ (step-stands s u ps h w) g
       go (stopped a) w ih g = never g
+
+-- ---- a call
+
+-- the readable end of a call that is accepted is at most 2^40
+end-small : (f : Fixed) (v : View) (s : State) → doorOf f v s ≡ accepted → v .end .0 ≤ 1099511627776
+end-small f v s e = omega (arith, opened f v s e .placed .end, bounded-log f v s e .top)
+
+pub call-builds : CallBuilds
+call-builds c s start ps e b i =
+    let f = c .fixed in
+    let v = c .view in
+    let r = run (stepOf f v) (c .budget) s in
+    let w = walk-stands f v (end-small f v s e) start (r .steps) s (r .state) ps (record { built = b; is = i }) (run-stops (stepOf f v) (c .budget) s .walked) in
+    rw (call-accepted dispatcher c s e) (w .built, w .is)
 
 -- ---- the list
 
@@ -116,7 +123,7 @@ query-after-calls rs s chain steady d l z rise topic key first last wanted out q
     let v = d .view in
     let t = accepted-at dispatcher rs s d l in
     let o = opened f v (t .0) (t .1) in
-    let w = walk-stands f v (omega (arith, o .placed .end, bounded-log f v (t .0) (t .1) .top)) (s .index) (total dispatcher rs) s (final dispatcher rs s) []
+    let w = walk-stands f v (end-small f v (t .0) (t .1)) (s .index) (total dispatcher rs) s (final dispatcher rs s) []
     (record { built = built-none _ _ (length (t .0 .index)) (s .index) (index-sizes (f .sizes) _ _ (o .sized)) z; is = refl })
     (rw l at (demand-3 rs s chain steady .whole)) in
     rw (w .is) (query-exact _ _ (s .index) (puts f v (total dispatcher rs) s []) (w .built) rise topic key first last wanted out q)

@@ -7,7 +7,8 @@ use native.Mathlib.Omega.{arith}
 use Rattle.machine.specs.Calls.{Door, accepted, refused, Machine, Call, keepIf, latest, doorAt, Report, Chain, total, final, passed, Steady, Leads}
 use Rattle.machine.specs.Claims.{Laws, Climbs}
 use Rattle.machine.proofs.Lists.{resumes, bounded}
-use Rattle.dispatch_step.specs.Step.{Fixed, View, State, movedBy, filedAs}
+use Rattle.dispatch_request.specs.Request.{View}
+use Rattle.dispatch_step.specs.Step.{Fixed, State, positionOf, written, movedBy}
 use Rattle.dispatch_step.specs.Inner.{Moves, over-blank, over-record}
 use Rattle.dispatch_step.proofs.Moves.{moves}
 use Rattle.dispatch.specs.Dispatch.{dispatcher}
@@ -16,13 +17,13 @@ use Rattle.dispatch_laws.proofs.Doors.{opened, bounded-log, reopened}
 use Rattle.dispatch_laws.proofs.Stable.{stable}
 
 -- a step climbs, not past the readable end
-climb : (f : Fixed) (v : View) (s t : State) → Moves f v s t → (s .position .0 < t .position .0) × (t .position .0 ≤ v .end .0)
-unfolding movedBy filedAs
+climb : (f : Fixed) (v : View) (s t : State) → Moves f v s t → (positionOf s < positionOf t) × (positionOf t ≤ v .end .0)
+unfolding movedBy written
 climb f v s t (over-blank n h l k m) = rw m (omega arith, k)
-climb f v s t (over-record m h d) = rw (d .left, d .here) (omega (arith, d .least), d .below)
+climb f v s t (over-record q hs h d) = rw (d .left) (omega (arith, d .least), d .below)
 
 abbrev Holds : Fixed → State → Type 0
-Holds f s = f .sizes .geometry .«first_position» ≤ s .position .0
+Holds f s = f .sizes .geometry .«first_position» ≤ positionOf s
 
 laws : Laws dispatcher
 laws =
@@ -38,7 +39,7 @@ laws =
 climbs : Climbs dispatcher laws
 climbs =
     record {
-      height = λ s. s .position .0;
+      height = λ s. positionOf s;
       limit = λ v. v .end .0;
       climbs = λ f v s t h e. climb f v s t (moves f v s t e);
     }

@@ -14,7 +14,8 @@ use Rattle.commit_log.proofs.Doors.{geometry-fits, within, inside}
 use Rattle.consume_queue.specs.Queue.{entriesOk, queueRows, countsOk}
 use Rattle.index_file.specs.Index.{sizesOk, headerSound}
 use Rattle.machine.specs.Calls.{accepted, refused}
-use Rattle.dispatch_step.specs.Step.{Fixed, View, State}
+use Rattle.dispatch_request.specs.Request.{View}
+use Rattle.dispatch_step.specs.Step.{Fixed, State}
 use Rattle.dispatch.specs.Dispatch.{sizesFit, isRefused, progressBad, doorOf, Extended}
 
 shut : {a : Answer} → refused a ≡ accepted → ⊥
@@ -24,7 +25,7 @@ shut e = let z : _≡_ {A = ℕ} 0 1 = cc in omega arith
 pub record Opened (f : Fixed) (v : View) (s : State) : Type 0 where
   pub sized : sizesFit (f .sizes) (length (v .log)) (length (s .index)) ≡ true
   pub listed : isRefused (queueRows (f .directory) (f .sizes .entries) (length (s .queues))) ≡ false
-  pub placed : Within (f .sizes .geometry) (length (v .log)) (s .position) (v .end)
+  pub placed : Within (f .sizes .geometry) (length (v .log)) (s .progress .position) (v .end)
   pub counted : countsOk 16 (f .sizes .entries) (s .counts) ≡ true
   pub header : headerSound (f .sizes .index .«item_count») (s .index) ≡ true
 
@@ -36,13 +37,13 @@ module _ (f : Fixed) (v : View) (s : State) where
       let n = length (v .log) in
       let p₁ = passed (not (sizesFit z n (length (s .index)))) _ _ accepted shut e in
       let p₂ = passed (isRefused (queueRows (f .directory) (z .entries) (length (s .queues)))) _ _ accepted shut (p₁ .rest) in
-      let p₃ = passed (outside (z .geometry) n (s .position) (v .end) || not (countsOk 16 (z .entries) (s .counts))) _ _ accepted shut (p₂ .rest) in
+      let p₃ = passed (outside (z .geometry) n (s .progress .position) (v .end) || not (countsOk 16 (z .entries) (s .counts))) _ _ accepted shut (p₂ .rest) in
       let p₄ = passed (not (headerSound (z .index .«item_count») (s .index))) _ _ accepted shut (p₃ .rest) in
-      let k = neither (outside (z .geometry) n (s .position) (v .end)) (not (countsOk 16 (z .entries) (s .counts))) (p₃ .fails) in
+      let k = neither (outside (z .geometry) n (s .progress .position) (v .end)) (not (countsOk 16 (z .entries) (s .counts))) (p₃ .fails) in
       record {
         sized = not-false _ (p₁ .fails);
         listed = p₂ .fails;
-        placed = within (z .geometry) n (s .position) (v .end) (k .0);
+        placed = within (z .geometry) n (s .progress .position) (v .end) (k .0);
         counted = not-false _ (k .1);
         header = not-false _ (p₄ .fails);
       }
@@ -53,7 +54,7 @@ module _ (f : Fixed) (v : View) (s : State) where
       rw (
         o .sized,
         o .listed,
-        inside (f .sizes .geometry) (length (v .log)) (s .position) (v .end) (o .placed),
+        inside (f .sizes .geometry) (length (v .log)) (s .progress .position) (v .end) (o .placed),
         o .counted,
         o .header,
       )

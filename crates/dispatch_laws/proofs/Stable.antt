@@ -1,27 +1,30 @@
 -- A step that is done is done over each view that extends the first. Assumes nothing.
 use Prim.Native.Nat.{ℕ, _+_, _-_, _≤_, _<_}
-use mathlib.Core.Path.{_≡_, refl, sym, _∙_}
-use mathlib.Core.List.{List}
+use mathlib.Core.Path.{_≡_, refl, sym, ap, _∙_}
+use mathlib.Core.List.{List, []}
 use native.Mathlib.Omega.{arith}
 use lib.ListN.{take, drop, length-take, length-drop}
 use lib.Seq.{ext-getD, getD-take, getD-drop}
-use borrow.Author.Tests.{ne-eqb}
+use borrow.Author.Tests.{eq-eqb}
 use Rattle.codec.specs.Bytes.{part}
 use Rattle.codec.specs.Choice.{pick}
+use Rattle.units.specs.declared.Answer.{Answer}
+use Rattle.units.specs.declared.Answer.the-variants.{Done}
 use Rattle.units.specs.declared.LogPosition.{LogPosition}
 use Rattle.units.specs.declared.Place.{Place}
 use Rattle.record.specs.declared.Record.{Record}
 use Rattle.record.specs.declared.Entry.{Entry}
-use Rattle.record.specs.declared.Entry.the-variants.{Blank, Message}
+use Rattle.record.specs.declared.Entry.the-variants.{Stop, Blank, Message}
 use Rattle.record.specs.Claims.{Whole}
-use Rattle.record.proofs.Soundness.{message-sound}
+use Rattle.record.proofs.Soundness.{blank-padded, message-framed, message-sound}
 use Rattle.commit_log.specs.declared.Geometry.{Geometry}
 use Rattle.commit_log.specs.Log.{segmentRest, seen, entryWithin, placeBytes, Extends}
 use Rattle.commit_log.proofs.Stays.{entry-stays}
 use Rattle.machine.specs.Steps.{moved}
-use Rattle.dispatch_step.specs.Step.{Fixed, View, State, entryHere, topicOf, propertiesOf, stepAs, stepOf}
-use Rattle.dispatch_step.specs.Inner.{Moves, over-blank, over-record}
-use Rattle.dispatch_step.proofs.Moves.{moves}
+use Rattle.machine.proofs.Steps.{never}
+use Rattle.dispatch_request.specs.Request.{View, stop, standsAs, standsAt}
+use Rattle.dispatch_request.proofs.Standing.{seen-most, stands-as}
+use Rattle.dispatch_step.specs.Step.{Fixed, State, positionOf, stepAs, stepOf}
 use Rattle.dispatch.specs.Dispatch.{Extended}
 
 -- bytes below the readable end
@@ -59,43 +62,56 @@ stop-blank n a e = let z : _≡_ {A = ℕ} 0 1 = cc in omega arith
 stop-message : (m : Record) → Whole (Message m)
 stop-message m a e = let z : _≡_ {A = ℕ} 0 1 = cc in omega arith
 
--- before the readable end a step is the entry's
-step-is : (f : Fixed) (v : View) (s : State) (y : Entry) → s .position .0 < v .end .0 → entryHere f v s ≡ y → stepOf f v s ≡ stepAs f v s y
-unfolding stepOf pick
-step-is f v s y l h = rw (ne-eqb (s .position .0) (v .end .0) (λ e. omega arith), h)
+-- before the readable end what stands there is the entry's
+stands-is : (directory : List ℕ) (g : Geometry) (v : View) (p : LogPosition) (y : Entry) → p .0 < v .end .0 → entryWithin (v .log) g p (v .end) ≡ y
+    → standsAt directory g v p ≡ standsAs directory g v p y
+stands-is directory g v p y l h = stands-as directory g v p [] (sym h) (λ e. omega arith)
 
--- and it looks at the view no further than at topic and properties
-blank-same : (f : Fixed) (v w : View) (s : State) (n : ℕ) → stepAs f w s (Blank n) ≡ stepAs f v s (Blank n)
-unfolding stepAs
-blank-same f v w s n = refl
+module _ (directory : List ℕ) (g : Geometry) (v w : View) (p : LogPosition) where
+  -- and it looks at the view no further than at topic and properties
+  blank-same : (n : ℕ) → standsAs directory g w p (Blank n) ≡ standsAs directory g v p (Blank n)
+  unfolding standsAs
+  blank-same n = refl
 
-message-same : (f : Fixed) (v w : View) (s : State) (m : Record) → topicOf f w s m ≡ topicOf f v s m → propertiesOf f w s m ≡ propertiesOf f v s m
-    → stepAs f w s (Message m) ≡ stepAs f v s (Message m)
-unfolding stepAs
-message-same f v w s m i j = rw (i, j)
+  message-same : (m : Record) → placeBytes (w .log) g p (m .topic) ≡ placeBytes (v .log) g p (m .topic)
+      → placeBytes (w .log) g p (m .properties) ≡ placeBytes (v .log) g p (m .properties)
+      → standsAs directory g w p (Message m) ≡ standsAs directory g v p (Message m)
+  unfolding standsAs
+  message-same m i j = rw (i, j)
 
-pub stable : (f : Fixed) (v w : View) (s t : State) → f .sizes .geometry .«first_position» ≤ s .position .0 → Extended f v w
-    → stepOf f v s ≡ moved t → stepOf f w s ≡ moved t
-stable f v w s t b x e = go (moves f v s t e)
-  where
-    g : Geometry
-    g = f .sizes .geometry
-
+  module _ (from : g .«first_position» ≤ p .0) (x : Extends g (v .log) (w .log) (v .end) (w .end)) where
     -- over the same entry
-    over : (y : Entry) → Whole y → s .position .0 < v .end .0 → entryHere f v s ≡ y → stepAs f w s y ≡ stepAs f v s y → stepOf f w s ≡ moved t
+    over : (y : Entry) → Whole y → p .0 < v .end .0 → entryWithin (v .log) g p (v .end) ≡ y → standsAs directory g w p y ≡ standsAs directory g v p y
+        → standsAt directory g w p ≡ standsAt directory g v p
     over y o l h same =
-        step-is f w s y (omega (arith, l, x .grows)) (entry-stays g (v .log) (w .log) (s .position) (v .end) (w .end) y b (omega arith) x o h)
+        stands-is directory g w p y (omega (arith, l, x .grows)) (entry-stays g (v .log) (w .log) p (v .end) (w .end) y from (omega arith) x o h)
         ∙ same
-        ∙ sym (step-is f v s y l h)
-        ∙ e
+        ∙ sym (stands-is directory g v p y l h)
 
-    place-stays : (k : Place) (n : ℕ) → k .at + k .len ≤ n → s .position .0 + n ≤ v .end .0
-        → placeBytes (w .log) g (s .position) k ≡ placeBytes (v .log) g (s .position) k
-    place-stays k n i l = part-stays g (v .log) (w .log) (v .end) (w .end) (k .len) (s .position .0 - g .«first_position» + k .at) x (omega arith)
+    place-stays : (k : Place) (n : ℕ) → k .at + k .len ≤ n → p .0 + n ≤ v .end .0 → placeBytes (w .log) g p k ≡ placeBytes (v .log) g p k
+    place-stays k n i l = part-stays g (v .log) (w .log) (v .end) (w .end) (k .len) (p .0 - g .«first_position» + k .at) x (omega arith)
 
-    go : Moves f v s t → stepOf f w s ≡ moved t
-    go (over-blank n h l k m) = over (Blank n) (stop-blank n) (omega arith) h (blank-same f v w s n)
-    go (over-record m h d) =
-        let q = parts (v .log) g (s .position) (v .end) m h in
-        over (Message m) (stop-message m) (omega (arith, d .least, d .below)) h
-        (message-same f v w s m (place-stays (m .topic) (m .total) (q .topic) (d .below)) (place-stays (m .properties) (m .total) (q .properties) (d .below)))
+    -- what stands there, if it is no stop
+    stays : ((a : Answer) → standsAt directory g v p ≡ stop a → ⊥) → standsAt directory g w p ≡ standsAt directory g v p
+    unfolding standsAt standsAs entryWithin pick
+    stays goes = go (entryWithin (v .log) g p (v .end)) refl
+      where
+        before : p .0 ≡ v .end .0 → ⊥
+        before e = goes Done (rw (eq-eqb (p .0) (v .end .0) e))
+
+        go : (y : Entry) → entryWithin (v .log) g p (v .end) ≡ y → standsAt directory g w p ≡ standsAt directory g v p
+        go (Stop a) h = absurd (goes a (stands-as directory g v p [] (sym h) before))
+        go (Blank n) h =
+            let k = blank-padded _ _ _ n h in
+            over (Blank n) (stop-blank n) (omega (arith, k .0, k .1 .below, seen-most (v .log) g p (v .end))) h (blank-same n)
+        go (Message m) h =
+            let k = message-framed _ _ _ m h in
+            let b : p .0 + m .total ≤ v .end .0 = omega (arith, k .least, k .below, seen-most (v .log) g p (v .end)) in
+            let z = parts (v .log) g p (v .end) m h in
+            over (Message m) (stop-message m) (omega (arith, k .least)) h
+            (message-same m (place-stays (m .topic) (m .total) (z .topic) b) (place-stays (m .properties) (m .total) (z .properties) b))
+
+pub stable : (f : Fixed) (v w : View) (s t : State) → f .sizes .geometry .«first_position» ≤ positionOf s → Extended f v w
+    → stepOf f v s ≡ moved t → stepOf f w s ≡ moved t
+unfolding stepOf stepAs
+stable f v w s t b x e = ap (stepAs f s) (stays (f .directory) (f .sizes .geometry) v w (s .progress .position) b x (λ a h. never (sym (ap (stepAs f s) h) ∙ e))) ∙ e

@@ -8,12 +8,14 @@ use lib.ListN.{length, take}
 use Rattle.units.specs.declared.Answer.the-variants.{BudgetSpent}
 use Rattle.java_hash.specs.Hash.{indexHash}
 use Rattle.index_query.specs.Query.{wantedOf, queryOk, queried}
-use Rattle.index_laws.specs.History.{Empty, items, SecondsRise, TimesRise, matches}
+use Rattle.index_laws.specs.History.{Empty, Put, build, items, SecondsRise, TimesRise, matches}
+use Rattle.index_laws.specs.Claims.{Built}
 use Rattle.index_query.specs.Claims.{Finds}
 use Rattle.machine.specs.Steps.{stopped}
-use Rattle.machine.specs.Calls.{Call, Report, Chain, total, final, passed, Steady, latest}
+use Rattle.machine.specs.Calls.{accepted, Call, doorAt, call, Report, Chain, total, final, passed, Steady, latest}
 use Rattle.machine.specs.Claims.{Resumed}
-use Rattle.dispatch_step.specs.Step.{Fixed, View, State, stepOf}
+use Rattle.dispatch_request.specs.Request.{View}
+use Rattle.dispatch_step.specs.Step.{Fixed, State, stepOf}
 use Rattle.dispatch.specs.Dispatch.{dispatcher}
 use Rattle.dispatch_laws.specs.History.{puts}
 
@@ -28,6 +30,16 @@ BudgetAbove = (rs : List (Report dispatcher)) (s : State) → Chain dispatcher r
 -- "any cause but a spent budget": no rule gives 9
 abbrev pub NeverSpent : Type 0
 NeverSpent = (f : Fixed) (v : View) (s : State) → stepOf f v s ≡ stopped BudgetSpent → ⊥
+
+-- "built from empty": what an accepted call leaves on an index so built is again so built, by the items of the records that its steps passed besides
+abbrev pub CallBuilds : Type 0
+CallBuilds =
+    (c : Call dispatcher) (s : State) (start : List ℕ) (ps : List Put) → doorAt dispatcher c s ≡ accepted
+    → let k = c .fixed .sizes .index .«slot_count» in
+    let n = c .fixed .sizes .index .«item_count» in
+    let r = call dispatcher c s in
+    let qs = puts (c .fixed) (c .view) (r .steps) s ps in
+    Built k n start ps → s .index ≡ build k start ps → Built k n start qs × (r .state .index ≡ build k start qs)
 
 -- demand 2: "On an index built from empty, recorded seconds never falling, a query returns exactly the newest items with the key's hash and a
 -- recorded time in the range, newest first, up to the number asked": built by any list as in demand 3, the items being those of the records that its

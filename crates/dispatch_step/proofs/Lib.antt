@@ -1,5 +1,4 @@
 pub mod Filing
-pub mod Going
 pub mod Moves
-pub mod Planning
-pub mod Stepping
+pub mod Fits
+pub mod Going

@@ -1,2 +1,4 @@
 pub mod Step
+pub mod Filing
+pub mod Door
 pub mod Inner

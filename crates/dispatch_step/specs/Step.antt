@@ -1,161 +1,79 @@
--- One step of dispatch: document 01, section "One dispatch step". Assumes nothing.
-use Prim.Native.Nat.{ℕ, _+_, _*_, _/_, _%_}
-use mathlib.Core.Bool.{Bool, true, false, not}
-use mathlib.Core.List.{List, []}
+-- One step of dispatch: document 01, section "One dispatch step". What stands at the position becomes a request, and the request is filed. Assumes nothing.
+use Prim.Native.Nat.{ℕ, _+_}
+use mathlib.Core.List.{List}
 use lib.Dec.{eqb}
-use lib.ListN.{getD, set}
-use Rattle.codec.specs.Bytes.{overwrite}
 use Rattle.codec.specs.Choice.{pick}
 use Rattle.units.specs.declared.Answer.{Answer}
-use Rattle.units.specs.declared.Answer.the-variants.{Done, QueueUnlisted, QueueOutOfStep, QueueFull}
-use Rattle.units.specs.declared.LogPosition.{LogPosition}
-use Rattle.units.specs.declared.QueueOffset.{QueueOffset}
 use Rattle.units.specs.Answers.{numberOf}
-use Rattle.java_hash.specs.Hash.{tagCode}
-use Rattle.properties.specs.declared.Found.{Found}
-use Rattle.properties.specs.declared.Found.the-variants.{Absent, One, Many}
-use Rattle.properties.specs.Parts.{bytesAt}
-use Rattle.properties.specs.Finder.{tagsName, finder}
-use Rattle.directory.specs.declared.Located.{Located}
-use Rattle.directory.specs.declared.Located.the-variants.{Unlisted, Row}
-use Rattle.directory.specs.Directory.{rowOf}
-use Rattle.record.specs.declared.Record.{Record}
-use Rattle.record.specs.declared.Entry.{Entry}
-use Rattle.record.specs.declared.Entry.the-variants.{Stop, Blank, Message}
-use Rattle.commit_log.specs.Log.{entryWithin, placeBytes}
-use Rattle.consume_queue.specs.Queue.{entryPlace, entryBytes}
-use Rattle.index_file.specs.Items.{itemHashes, itemsAnswer, putAll}
+use Rattle.consume_queue.specs.Queue.{entryBytes}
+use Rattle.consume_queue.specs.Entering.{entryAnswer, enteredQueues, enteredCounts}
+use Rattle.index_file.specs.Items.{itemsAnswer, putAll}
 use Rattle.machine.specs.Steps.{Outcome, moved, stopped}
+use Rattle.dispatch_request.specs.declared.DispatchRequest.{DispatchRequest}
+use Rattle.dispatch_request.specs.Request.{View, Stands, stop, blank, request, standsAt}
 use Rattle.dispatch_step.specs.declared.Sizes.{Sizes}
-use Rattle.dispatch_step.specs.declared.Duties.{Duties}
-use Rattle.dispatch_step.specs.declared.Plan.{Plan}
-use Rattle.dispatch_step.specs.declared.Plan.the-variants.{Halt, Skip, Enter}
+use Rattle.dispatch_step.specs.declared.Progress.{Progress}
 
 -- "directory, log start and sizes": "sizes are S, R, K, N and the log's length", of which the length is the log's own
 pub record Fixed : Type 0 where
   pub sizes : Sizes
   pub directory : List ℕ
 
--- the log, and its readable end
-pub record View : Type 0 where
-  pub log : List ℕ
-  pub end : LogPosition
+abbrev pub fixedOf : Sizes → List ℕ → Fixed
+fixedOf sizes directory = record { sizes = sizes; directory = directory }
 
 -- "Progress holds a log position and one entry count per queue"; "Compared are position, all 16 counts and every byte of queues and index"
 pub record State : Type 0 where
-  pub position : LogPosition
+  pub progress : Progress
   pub counts : List ℕ
   pub queues : List ℕ
   pub index : List ℕ
 
--- ---- rules 5 to 7: a record that was read
+abbrev pub stateOf : Progress → List ℕ → List ℕ → List ℕ → State
+stateOf progress counts queues index = record { progress = progress; counts = counts; queues = queues; index = index }
 
--- rule 5: "Transaction type, system flag bits 4 and 8"
-unfoldable pub transaction : ℕ → ℕ
-transaction flag = 4 * (flag / 4 % 4)
+-- where a state stands in the log
+abbrev pub positionOf : State → ℕ
+positionOf s = s .progress .position .0
 
--- "0 none, 4 prepared, 8 commit, 12 rollback. None and commit make a queue entry; all but rollback make index items"
-unfoldable pub duties : ℕ → Duties
-duties type =
-    pick (eqb type 0) (record { entry = true; items = true })
-    (pick (eqb type 4) (record { entry = false; items = true })
-    (pick (eqb type 8) (record { entry = true; items = true })
-    (record { entry = false; items = false })))
-
--- rule 6: "Queue entry: 11 if unlisted; 12 unless the queue offset equals the count; 13 if the count is R"
-unfoldable pub rowPlan : ℕ → List ℕ → QueueOffset → Located → Plan
-rowPlan r counts offset Unlisted = Halt QueueUnlisted
-rowPlan r counts offset (Row i) =
-    pick (not (eqb (offset .0) (getD counts i 0))) (Halt QueueOutOfStep)
-    (pick (eqb (getD counts i 0) r) (Halt QueueFull) (Enter i))
-
-unfoldable pub entryPlan : Bool → ℕ → List ℕ → List ℕ → Record → List ℕ → Plan
-entryPlan makes r directory counts m topic =
-    pick makes (rowPlan r counts (m .fields .«queue_offset») (rowOf topic (m .fields .«queue_id») directory)) Skip
-
-unfoldable pub planAnswer : Plan → Answer
-planAnswer (Halt a) = a
-planAnswer Skip = Done
-planAnswer (Enter i) = Done
-
--- "Tag code: .. 0 without TAGS"
-unfoldable pub tagOf : Found → List ℕ → ℕ
-tagOf Absent properties = 0
-tagOf (One p) properties = tagCode (bytesAt p properties)
-tagOf (Many p) properties = tagCode (bytesAt p properties)
-
--- the index hashes of the items that a record makes
-unfoldable pub recordHashes : Bool → List ℕ → List ℕ → List ℕ
-recordHashes makes topic properties = pick makes (itemHashes topic properties) []
-
--- "its entry, if it makes one, goes into its row's region at the entry number equal to that row's count .., and that count grows by 1"
-unfoldable pub queuesAfter : Plan → ℕ → List ℕ → List ℕ → List ℕ → List ℕ
-queuesAfter (Halt a) r counts entry queues = queues
-queuesAfter Skip r counts entry queues = queues
-queuesAfter (Enter i) r counts entry queues = overwrite queues (entryPlace r i (getD counts i 0)) entry
-
-unfoldable pub countsAfter : Plan → List ℕ → List ℕ
-countsAfter (Halt a) counts = counts
-countsAfter Skip counts = counts
-countsAfter (Enter i) counts = set counts i (getD counts i 0 + 1)
-
--- "A step done at a record moves to p + total"; "Entry: log position 8, total 4, tag code 8"
-unfoldable pub filedAs : Plan → List ℕ → Fixed → Record → List ℕ → State → State
-filedAs plan hs f m properties s =
-    record {
-      position = record { 0 = m .position .0 + m .total };
-      counts = countsAfter plan (s .counts);
-      queues = queuesAfter plan (f .sizes .entries) (s .counts) (entryBytes (m .position) (m .total) (tagOf (finder tagsName properties) properties)) (s .queues);
-      index = putAll (f .sizes .index .«slot_count») (m .position .0) (m .fields .«store_time») hs (s .index);
-    }
+-- the progress n bytes on
+abbrev pub onBy : ℕ → Progress → Progress
+onBy n p = record { position = record { 0 = p .position .0 + n } }
 
 -- a stop, if it is one, else what follows
 unfoldable pub unless : Answer → Outcome State → Outcome State
 unless a next = pick (eqb (numberOf a) 0) next (stopped a)
 
+-- "A step done at a record moves to p + total"; its entry and its items are written
+unfoldable pub written : Sizes → DispatchRequest → List ℕ → State → State
+written z q hs s =
+    record {
+      progress = onBy (q .total) (s .progress);
+      counts = enteredCounts (q .entry) (q .row) (s .counts);
+      queues = enteredQueues (q .entry) (q .row) (z .entries) (s .counts) (entryBytes (s .progress .position) (q .total) (q .«tag_code»)) (s .queues);
+      index = putAll (z .index .«slot_count») (positionOf s) (q .«store_time») hs (s .index);
+    }
+
 -- rule 6's stop, then rule 7's, each judged on the state before the record: nothing is written before every check has passed
-unfoldable pub fileAs : Duties → Fixed → Record → List ℕ → List ℕ → State → Outcome State
-fileAs d f m topic properties s =
-    let plan = entryPlan (d .entry) (f .sizes .entries) (f .directory) (s .counts) m topic in
-    let hs = recordHashes (d .items) topic properties in
-    unless (planAnswer plan)
-    (unless (itemsAnswer (f .sizes .index .«slot_count») (f .sizes .index .«item_count») (s .index) (m .position .0) hs)
-    (moved (filedAs plan hs f m properties s)))
+unfoldable pub filed : Sizes → DispatchRequest → List ℕ → State → Outcome State
+filed z q hs s =
+    unless (entryAnswer (q .entry) (q .row) (q .«queue_offset») (z .entries) (s .counts))
+    (unless (itemsAnswer (z .index .«slot_count») (z .index .«item_count») (s .index) (positionOf s) hs)
+    (moved (written z q hs s)))
 
-abbrev pub dutiesOf : Record → Duties
-dutiesOf m = duties (transaction (m .fields .«system_flag»))
-
-unfoldable pub fileOf : Fixed → Record → List ℕ → List ℕ → State → Outcome State
-fileOf f m topic properties s = fileAs (dutiesOf m) f m topic properties s
-
--- ---- one step
-
--- rules 2 to 4
-abbrev pub entryHere : Fixed → View → State → Entry
-entryHere f v s = entryWithin (v .log) (f .sizes .geometry) (s .position) (v .end)
-
-abbrev pub topicOf : Fixed → View → State → Record → List ℕ
-topicOf f v s m = placeBytes (v .log) (f .sizes .geometry) (s .position) (m .topic)
-
-abbrev pub propertiesOf : Fixed → View → State → Record → List ℕ
-propertiesOf f v s m = placeBytes (v .log) (f .sizes .geometry) (s .position) (m .properties)
-
+-- rule 3: "else move to p + r"
 unfoldable pub movedBy : ℕ → State → State
-movedBy n s = record { position = record { 0 = s .position .0 + n }; counts = s .counts; queues = s .queues; index = s .index }
+movedBy n s = record { progress = onBy n (s .progress); counts = s .counts; queues = s .queues; index = s .index }
 
--- "A step handles one record or one blank"; rule 3: "else move to p + r"
-unfoldable pub stepAs : Fixed → View → State → Entry → Outcome State
-stepAs f v s (Stop a) = stopped a
-stepAs f v s (Blank n) = moved (movedBy n s)
-stepAs f v s (Message m) = fileOf f m (topicOf f v s m) (propertiesOf f v s m) s
+-- "A step handles one record or one blank"
+unfoldable pub stepAs : Fixed → State → Stands → Outcome State
+stepAs f s (stop a) = stopped a
+stepAs f s (blank n) = moved (movedBy n s)
+stepAs f s (request q hs) = filed (f .sizes) q hs s
 
--- rule 1: "Position = E: 0"; the budget is the machine's
+-- what stands at a state's position
+abbrev pub standsHere : Fixed → View → State → Stands
+standsHere f v s = standsAt (f .directory) (f .sizes .geometry) v (s .progress .position)
+
 unfoldable pub stepOf : Fixed → View → State → Outcome State
-stepOf f v s = pick (eqb (s .position .0) (v .end .0)) (stopped Done) (stepAs f v s (entryHere f v s))
-
--- what the record m at a state's position makes
-abbrev pub planOf : Fixed → View → State → Record → Plan
-planOf f v s m = entryPlan (dutiesOf m .entry) (f .sizes .entries) (f .directory) (s .counts) m (topicOf f v s m)
-
-abbrev pub hashesOf : Fixed → View → State → Record → List ℕ
-hashesOf f v s m = recordHashes (dutiesOf m .items) (topicOf f v s m) (propertiesOf f v s m)
+stepOf f v s = stepAs f s (standsHere f v s)

@@ -17,21 +17,23 @@ use Rattle.codec.proofs.Fields.{peel, field-inside, field-before}
 use Rattle.codec.proofs.Layouts.{length-layout}
 use Rattle.java_hash.specs.Hash.{slotOf}
 use Rattle.java_hash.proofs.HashLaws.{slot-within}
+use Rattle.units.specs.declared.LogPosition.{LogPosition}
 use Rattle.index_file.specs.declared.Item.{Item}
 use Rattle.index_file.specs.Index.{store, firstTime, lastTime, firstPosition, lastPosition, filledSlots, usedCount, slotAt, slotValue, itemAt, itemBytes, itemOf, secondsOf, headerAfter, itemFor, filledAfter, put}
-use Rattle.index_file.specs.Inner.{Room, secondsAfter, withHeader, withItem, Entered}
+use Rattle.index_file.specs.Room.{Room}
+use Rattle.index_file.specs.Inner.{secondsAfter, withHeader, withItem, Entered}
 use Rattle.index_file.proofs.Stores.{length-store, stored, kept-before, kept-after}
 
--- ---- the steps of `put_entry` and `put_item`
+-- ---- the steps of `put_entry`
 
-pub entry-steps : (k u hash position seconds : ℕ) (l : List ℕ) {slot previous at : ℕ} {a b : List ℕ}
+pub entry-steps : (k u hash : ℕ) (position : LogPosition) (seconds : ℕ) (l : List ℕ) {slot previous at : ℕ} {a b : List ℕ}
     → slot ≡ slotAt (slotOf k hash) → previous ≡ field big 4 slot l → at ≡ itemAt k u
     → a ≡ overwrite l at (itemBytes (record { hash = hash; position = position; seconds = seconds; previous = previous })) → b ≡ store 4 slot u a
     → Entered k u hash position seconds l previous b
 unfolding withItem
 entry-steps k u hash position seconds l hs hp ha hw hb = record { previous = (cc); stands = (cc) }
 
-pub length-entry : (k u hash position seconds : ℕ) (l : List ℕ) → length (withItem k u hash position seconds l) ≡ length l
+pub length-entry : (k u hash : ℕ) (position : LogPosition) (seconds : ℕ) (l : List ℕ) → length (withItem k u hash position seconds l) ≡ length l
 unfolding withItem
 length-entry k u hash position seconds l = length-store _ _ _ _ ∙ length-overwrite _ _ _
 
@@ -39,14 +41,9 @@ length-entry k u hash position seconds l = length-store _ _ _ _ ∙ length-overw
 pub put-is : (k hash position time : ℕ) (l : List ℕ)
     → put k hash position time l
     ≡ withHeader (eqb (usedCount l) 1) (usedCount l + 1) (filledAfter (filledSlots l) (slotValue l (slotOf k hash))) position time
-    (withItem k (usedCount l) hash position (secondsOf (firstTime l) time) l)
+    (withItem k (usedCount l) hash (record { 0 = position }) (secondsOf (firstTime l) time) l)
 unfolding put headerAfter itemFor withHeader withItem
 put-is k hash position time l = refl
-
-pub put-steps : (k hash position time : ℕ) (l : List ℕ) {u first filled previous seconds more : ℕ} {a r : List ℕ}
-    → u ≡ usedCount l → first ≡ firstTime l → filled ≡ filledSlots l → seconds ≡ secondsOf first time → Entered k u hash position seconds l previous a
-    → more ≡ filledAfter filled previous → r ≡ withHeader (eqb u 1) (u + 1) more position time a → r ≡ put k hash position time l
-put-steps k hash position time l hu hf hm hs he hn hr = cc (put-is k hash position time l)
 
 module _ (filled previous : ℕ) where
   pub filled-more : previous ≡ 0 → filled + 1 ≡ filledAfter filled previous
@@ -168,17 +165,17 @@ module _ (used filled position time : ℕ) (l : List ℕ) where
 
 length-item : (e : Item) → length (itemBytes e) ≡ 20
 unfolding itemBytes
-length-item e = length-layout (number 4 (e .hash) ∷ number 8 (e .position) ∷ number 4 (e .seconds) ∷ number 4 (e .previous) ∷ [])
+length-item e = length-layout (number 4 (e .hash) ∷ number 8 (e .position .0) ∷ number 4 (e .seconds) ∷ number 4 (e .previous) ∷ [])
 
 -- its numbers fit their fields
 pub record Narrow (e : Item) : Type 0 where
   pub hash : e .hash < 4294967296
-  pub position : e .position < 18446744073709551616
+  pub position : e .position .0 < 18446744073709551616
   pub seconds : e .seconds < 4294967296
   pub previous : e .previous < 4294967296
 
 item-fields : (e : Item) → Narrow e
-    → (field big 4 0 (itemBytes e) ≡ e .hash) × (field big 8 4 (itemBytes e) ≡ e .position)
+    → (field big 4 0 (itemBytes e) ≡ e .hash) × (field big 8 4 (itemBytes e) ≡ e .position .0)
     × (field big 4 12 (itemBytes e) ≡ e .seconds) × (field big 4 16 (itemBytes e) ≡ e .previous)
 unfolding itemBytes layout pieceBytes
 item-fields e s =
@@ -188,13 +185,13 @@ item-fields e s =
 
 module _ (k n hash position time : ℕ) (l : List ℕ) (r : Room k n l 1) where
   item : Item
-  item = itemFor k hash position time l
+  item = itemFor k hash (record { 0 = position }) time l
 
   body : List ℕ
   body = overwrite l (itemAt k (usedCount l)) (itemBytes item)
 
   slotted : List ℕ
-  slotted = withItem k (usedCount l) hash position (secondsOf (firstTime l) time) l
+  slotted = withItem k (usedCount l) hash (record { 0 = position }) (secondsOf (firstTime l) time) l
 
   abbrev after : List ℕ
   after = put k hash position time l
@@ -310,7 +307,7 @@ module _ (k n hash position time : ℕ) (l : List ℕ) (r : Room k n l 1) where
       of-body w (itemAt k (usedCount l) + i) (omega arith)
       ∙ field-inside big w i l (itemAt k (usedCount l)) (itemBytes item) (rw length-item h) (rw length-item fits)
 
-  pub item-same : Narrow (itemFor k hash position time l) → itemOf k after (usedCount l) ≡ itemFor k hash position time l
+  pub item-same : Narrow (itemFor k hash (record { 0 = position }) time l) → itemOf k after (usedCount l) ≡ itemFor k hash (record { 0 = position }) time l
   unfolding itemOf item
   item-same s =
       let f = item-fields item s in

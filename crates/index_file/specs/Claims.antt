@@ -1,19 +1,14 @@
 -- What callers of the index file may rely on, as statements. Assumes nothing.
-use Prim.Native.Nat.{ℕ, _<_}
+use Prim.Native.Nat.{ℕ}
 use mathlib.Core.Path.{_≡_}
 use mathlib.Core.Bool.{true, false}
 use mathlib.Core.List.{List}
 use lib.ListN.{length}
 use Rattle.codec.specs.Bytes.{part}
-use Rattle.java_hash.specs.Hash.{topicHash}
 use Rattle.units.specs.declared.Answer.the-variants.{Done}
 use Rattle.index_file.specs.Index.{sizesOk, headerSound}
-use Rattle.index_file.specs.Items.{itemKeys, itemHashes, hashes, anyBadSlot, itemsAnswer, putAll, All}
-use Rattle.index_file.specs.Inner.{Room, Sized}
-
--- topic and `#` are hashed once
-abbrev pub ItemHashes : Type 0
-ItemHashes = (topic properties : List ℕ) → hashes (topicHash topic) (itemKeys properties) ≡ itemHashes topic properties
+use Rattle.index_file.specs.Items.{anyBadSlot, itemsAnswer, putAll}
+use Rattle.index_file.specs.Room.{Room, Sized}
 
 -- sizes and header, judged at the door, are what the check of a record's items needs
 abbrev pub DoorSized : Type 0
@@ -22,12 +17,6 @@ DoorSized = (k n : ℕ) (index : List ℕ) → sizesOk k n (length index) ≡ tr
 -- where rule 7 lets a record's items pass there is room for them
 abbrev pub CheckedRoom : Type 0
 CheckedRoom = (k n : ℕ) (index : List ℕ) (position : ℕ) (hs : List ℕ) → Sized k n index → itemsAnswer k n index position hs ≡ Done → Room k n index (length hs)
-
--- the same, counted by the keys
-abbrev pub CheckedItems : Type 0
-CheckedItems =
-    (k n : ℕ) (index : List ℕ) (position prefix : ℕ) (properties : List ℕ) → Sized k n index
-    → itemsAnswer k n index position (hashes prefix (itemKeys properties)) ≡ Done → Room k n index (length (itemKeys properties))
 
 -- an index that the door lets through, with room for a record's items, is one after they are put
 abbrev pub PutAllSized : Type 0
@@ -42,7 +31,3 @@ GoodSlotsStay =
 -- good slots of a list are good slots of a part of it
 abbrev pub GoodSlotsPart : Type 0
 GoodSlotsPart = (k : ℕ) (index l : List ℕ) (w at : ℕ) → anyBadSlot k index l ≡ false → anyBadSlot k index (part w at l) ≡ false
-
--- an item's hash is never negative
-abbrev pub ItemHashesSmall : Type 0
-ItemHashesSmall = (topic properties : List ℕ) → All (λ (h : ℕ). h < 2147483648) (itemHashes topic properties)

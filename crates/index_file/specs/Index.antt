@@ -7,6 +7,7 @@ use Rattle.codec.specs.Bytes.{big, bytesOf, field, overwrite}
 use Rattle.codec.specs.Choice.{pick}
 use Rattle.codec.specs.Layout.{number, layout}
 use Rattle.java_hash.specs.Hash.{slotOf}
+use Rattle.units.specs.declared.LogPosition.{LogPosition}
 use Rattle.index_file.specs.declared.Item.{Item}
 
 -- bytes with the number v in the w bytes from place `at`
@@ -70,13 +71,13 @@ itemAt k u = 40 + 4 * k + 20 * u
 
 -- "hash 4, position 8, seconds 4, previous slot value 4"
 unfoldable pub itemBytes : Item → List ℕ
-itemBytes e = layout (number 4 (e .hash) ∷ number 8 (e .position) ∷ number 4 (e .seconds) ∷ number 4 (e .previous) ∷ [])
+itemBytes e = layout (number 4 (e .hash) ∷ number 8 (e .position .0) ∷ number 4 (e .seconds) ∷ number 4 (e .previous) ∷ [])
 
 unfoldable pub itemOf : ℕ → List ℕ → ℕ → Item
 itemOf k index u =
     record {
       hash = field big 4 (itemAt k u) index;
-      position = field big 8 (itemAt k u + 4) index;
+      position = record { 0 = field big 8 (itemAt k u + 4) index };
       seconds = field big 4 (itemAt k u + 12) index;
       previous = field big 4 (itemAt k u + 16) index;
     }
@@ -92,7 +93,7 @@ headerAfter u filled position time index =
     pick (eqb u 1) (store 8 16 position (store 8 0 time m)) m
 
 -- the item that a put makes: "previous slot value"
-unfoldable pub itemFor : ℕ → ℕ → ℕ → ℕ → List ℕ → Item
+unfoldable pub itemFor : ℕ → ℕ → LogPosition → ℕ → List ℕ → Item
 itemFor k hash position time index =
     record { hash = hash; position = position; seconds = secondsOf (firstTime index) time; previous = slotValue index (slotOf k hash) }
 
@@ -106,4 +107,4 @@ put k hash position time index =
     let u = usedCount index in
     let s = slotOf k hash in
     headerAfter u (filledAfter (filledSlots index) (slotValue index s)) position time
-    (store 4 (slotAt s) u (overwrite index (itemAt k u) (itemBytes (itemFor k hash position time index))))
+    (store 4 (slotAt s) u (overwrite index (itemAt k u) (itemBytes (itemFor k hash (record { 0 = position }) time index))))

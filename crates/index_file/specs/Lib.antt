@@ -1,4 +1,5 @@
 pub mod Index
 pub mod Items
+pub mod Room
 pub mod Inner
 pub mod Claims

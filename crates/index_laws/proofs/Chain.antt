@@ -9,12 +9,12 @@ use lib.Dec.{ltb, eqb, eqb·suc-zero}
 use lib.ListN.{length, take}
 use borrow.Author.Tests.{eqb-true, ltb-true}
 use Rattle.codec.specs.Choice.{pick}
+use Rattle.codec.specs.Lists.{All}
 use Rattle.java_hash.specs.Hash.{slotOf}
 use Rattle.units.specs.declared.Answer.the-variants.{Done}
 use Rattle.index_file.specs.declared.Item.{Item}
 use Rattle.index_query.specs.declared.Criteria.{Criteria}
 use Rattle.index_query.specs.Walk.{Walked, itemTime, hit, damaged, matched, ends, after, Visit, visit, walk}
-use Rattle.index_file.specs.Items.{All}
 use Rattle.index_laws.specs.History.{inSlot, newest, SecondsRise, keep, linked, downFrom}
 use Rattle.index_query.proofs.Walks.{pick-same, early, walk-step}
 
@@ -139,7 +139,7 @@ none-early q m (e ∷ es) h a = rw (early q e (omega arith)) (none-early q m es 
 
 -- the newest matches, as many as are wanted, and the answer is done
 pub list-found : (q : Criteria) (left : ℕ) (es : List Item) → SecondsRise es → Whole es
-    → (walkList (visit q) left es .answer ≡ Done) × (walkList (visit q) left es .found ≡ take left (map (λ (e : Item). e .position) (keep (hit q) es)))
+    → (walkList (visit q) left es .answer ≡ Done) × (walkList (visit q) left es .found ≡ take left (map (λ (e : Item). e .position .0) (keep (hit q) es)))
 unfolding walkList visit matched keep pick
 list-found q zero [] rise whole = (refl, refl)
 list-found q (suc n) [] rise whole = (refl, refl)
@@ -148,17 +148,17 @@ list-found q (suc n) (e ∷ es) rise whole =
     rw (eqb·suc-zero n, whole .0) (go (ltb (itemTime q e) (q .begin)) (hit q e) refl refl (λ m. list-found q m es (rise .1) (whole .1)))
   where
     positions : List Item → List ℕ
-    positions = map (λ (e : Item). e .position)
+    positions = map (λ (e : Item). e .position .0)
 
     go : (late h : Bool) → ltb (itemTime q e) (q .begin) ≡ late → hit q e ≡ h
         → ((m : ℕ) → (walkList (visit q) m es .answer ≡ Done) × (walkList (visit q) m es .found ≡ take m (positions (keep (hit q) es))))
-        → (pick late (after (pick h (e .position ∷ []) []) (ends Done)) (after (pick h (e .position ∷ []) []) (walkList (visit q) (suc n - length (pick h (e .position ∷ []) [])) es)) .answer ≡ Done)
-        × (pick late (after (pick h (e .position ∷ []) []) (ends Done)) (after (pick h (e .position ∷ []) []) (walkList (visit q) (suc n - length (pick h (e .position ∷ []) [])) es)) .found ≡ take (suc n) (positions (pick h (e ∷ keep (hit q) es) (keep (hit q) es))))
+        → (pick late (after (pick h (e .position .0 ∷ []) []) (ends Done)) (after (pick h (e .position .0 ∷ []) []) (walkList (visit q) (suc n - length (pick h (e .position .0 ∷ []) [])) es)) .answer ≡ Done)
+        × (pick late (after (pick h (e .position .0 ∷ []) []) (ends Done)) (after (pick h (e .position .0 ∷ []) []) (walkList (visit q) (suc n - length (pick h (e .position .0 ∷ []) [])) es)) .found ≡ take (suc n) (positions (pick h (e ∷ keep (hit q) es) (keep (hit q) es))))
     go true h w v ih =
         rw (sym v ∙ early q e (ltb-true _ _ w), none-early q (e .seconds) es (ltb-true _ _ w) (rise .0)) (refl, refl)
     go false true w v ih =
         let d : suc n - 1 ≡ n = omega arith in
-        rw d (ih n .0, ap {B = List ℕ} (λ r. e .position ∷ r) (ih n .1))
+        rw d (ih n .0, ap {B = List ℕ} (λ r. e .position .0 ∷ r) (ih n .1))
     go false false w v ih = rw sub-zero (ih (suc n))
 
 -- a test that implies another one

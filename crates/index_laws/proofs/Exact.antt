@@ -61,7 +61,7 @@ module _ (k n : ℕ) (l : List ℕ) (ps : List Put) (b : Built k n l ps) where
         let f = list-found criteria wanted es (rise-keep (inSlot k (slotOf k hash)) (items k ps) rise)
         (all-keep (λ (e : Item). damaged e ≡ false) (inSlot k (slotOf k hash)) (items k ps) (linked-whole _ k (items k ps) (held .chain))) in
         rw (search-list wanted)
-        (f .0, f .1 ∙ ap (λ (x : List Item). take wanted (map (λ (e : Item). e .position) x)) (keep-keep (hit criteria) (inSlot k (slotOf k hash)) (items k ps) (hit-slot k criteria)))
+        (f .0, f .1 ∙ ap (λ (x : List Item). take wanted (map (λ (e : Item). e .position .0) x)) (keep-keep (hit criteria) (inSlot k (slotOf k hash)) (items k ps) (hit-slot k criteria)))
 
     -- on an index that was built nothing but the query itself can be refused
     asked-list : (topic key : List ℕ) → hash ≡ indexHash topic key → (wanted : ℕ) (out : List ℕ) → queryOk (length topic) (length key) begin end (wantedOf wanted) (length out) ≡ true

@@ -11,14 +11,15 @@ use lib.ListN.{length, take, drop, replicate, length-replicate}
 use borrow.Author.Tests.{eqb-true, eqb-false, lt-ltb}
 use Rattle.codec.specs.Bytes.{big, valueOf, part, field}
 use Rattle.codec.specs.Choice.{pick}
+use Rattle.codec.specs.Lists.{All}
 use Rattle.codec.proofs.Parts.{length-overwrite}
 use Rattle.java_hash.specs.Hash.{slotOf}
 use Rattle.java_hash.proofs.HashLaws.{slot-within}
 use Rattle.index_file.specs.declared.Item.{Item}
 use Rattle.index_file.specs.Index.{usedCount, firstTime, untouched, slotValue, itemOf, secondsOf, itemFor, filledAfter, put}
-use Rattle.index_file.specs.Items.{putAll, All}
+use Rattle.index_file.specs.Items.{putAll}
 use Rattle.index_laws.specs.History.{zeros, zerosAndOne, Empty, Fresh, Put, build, Fit, oldest, newest, items, filed}
-use Rattle.index_file.specs.Inner.{Room}
+use Rattle.index_file.specs.Room.{Room}
 use Rattle.index_laws.specs.Claims.{Built, RisingTimes, BuiltCount, PutSound, PutAllSound, FreshEmpty, FreshOne, PutBuilt, FiledBuilt}
 use Rattle.index_query.proofs.Walks.{undamaged}
 use Rattle.index_file.proofs.Stores.{stored, kept-before, kept-after}

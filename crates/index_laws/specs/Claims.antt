@@ -4,10 +4,11 @@ use mathlib.Core.Path.{_≡_}
 use mathlib.Core.Bool.{true}
 use mathlib.Core.List.{List, map}
 use lib.ListN.{length, take}
+use Rattle.codec.specs.Lists.{All}
 use Rattle.java_hash.specs.Hash.{indexHash}
 use Rattle.index_file.specs.Index.{sizesOk, headerSound, usedCount, itemOf, put}
-use Rattle.index_file.specs.Items.{putAll, All}
-use Rattle.index_file.specs.Inner.{Room}
+use Rattle.index_file.specs.Items.{putAll}
+use Rattle.index_file.specs.Room.{Room}
 use Rattle.index_query.specs.Query.{wantedOf, queryOk, queried}
 use Rattle.index_query.specs.Claims.{Finds}
 use Rattle.index_laws.specs.History.{zeros, zerosAndOne, Empty, Fresh, Put, build, Fit, inSlot, items, SecondsRise, TimesRise, keep, matches, chain, downFrom, filed}

@@ -7,6 +7,7 @@ use mathlib.Core.Logic.{_⊎_}
 use lib.Dec.{eqb}
 use lib.ListN.{length, replicate}
 use Rattle.codec.specs.Choice.{pick}
+use Rattle.codec.specs.Lists.{All}
 use Rattle.java_hash.specs.Hash.{slotOf}
 use Rattle.index_file.specs.declared.Item.{Item}
 use Rattle.index_file.specs.Index.{store, firstTime, lastTime, firstPosition, lastPosition, filledSlots, usedCount, slotValue, itemOf, secondsOf, put}
@@ -69,7 +70,7 @@ items k [] = []
 items k (p ∷ ps) =
     record {
       hash = p .hash;
-      position = p .position;
+      position = record { 0 = p .position };
       seconds = secondsOf (oldest ps) (p .time);
       previous = newest k (slotOf k (p .hash)) (items k ps);
     }
@@ -93,7 +94,7 @@ keep p (x ∷ xs) = pick (p x) (x ∷ keep p xs) (keep p xs)
 -- "items with the key's hash and a recorded time in the range, newest first": their positions
 unfoldable pub matches : ℕ → List Put → ℕ → ℕ → ℕ → List ℕ
 matches k ps hash begin end =
-    map (λ (e : Item). e .position) (keep (hit (record { hash = hash; begin = begin; end = end; base = oldest ps })) (items k ps))
+    map (λ (e : Item). e .position .0) (keep (hit (record { hash = hash; begin = begin; end = end; base = oldest ps })) (items k ps))
 
 -- the numbers that the links from a number give, at most so many
 unfoldable pub linked : (ℕ → Item) → ℕ → ℕ → List ℕ

@@ -8,7 +8,7 @@ use Rattle.index_query.specs.declared.Criteria.{Criteria}
 use Rattle.index_query.specs.Walk.{itemTime, hit, damaged}
 
 module _ (q : Criteria) (e : Item) where
-  pub is-damaged : (b : Bool) → (leb 2147483648 (e .seconds) || not (positionOk (e .position))) ≡ b → damaged e ≡ b
+  pub is-damaged : (b : Bool) → (leb 2147483648 (e .seconds) || not (positionOk (e .position .0))) ≡ b → damaged e ≡ b
   unfolding damaged
   is-damaged b h = h
 

@@ -29,7 +29,7 @@ use Rattle.index_query.proofs.Walks.{early, walk-turn, walk-enough, wal
 -- what an item comes to, by its verdict
 act : Verdict → ℕ → Item → (ℕ → Walked) → Walked
 act Damaged left e rest = after [] (ends ChainBroken)
-act Match left e rest = after (e .position ∷ []) (rest (left - 1))
+act Match left e rest = after (e .position .0 ∷ []) (rest (left - 1))
 act Early left e rest = after [] (ends Done)
 act Pass left e rest = after [] (rest left)
 
@@ -38,7 +38,7 @@ unfolding visit verdictOf matched pick act
 visit-act q left e rest = go (damaged e) (hit q e) (ltb (itemTime q e) (q .begin)) refl refl
   where
     go : (d h t : Bool) → hit q e ≡ h → ltb (itemTime q e) (q .begin) ≡ t
-        → pick d (after [] (ends ChainBroken)) (pick t (after (pick h (e .position ∷ []) []) (ends Done)) (after (pick h (e .position ∷ []) []) (rest (left - length (pick h (e .position ∷ []) [])))))
+        → pick d (after [] (ends ChainBroken)) (pick t (after (pick h (e .position .0 ∷ []) []) (ends Done)) (after (pick h (e .position .0 ∷ []) []) (rest (left - length (pick h (e .position .0 ∷ []) [])))))
         ≡ act (pick d Damaged (pick h Match (pick t Early Pass))) left e rest
     go true h t a b = refl
     go false true true a b = let z : true ≡ false = sym a ∙ early q e (ltb-true _ _ b) in cc
@@ -158,7 +158,7 @@ module _ (index : List ℕ) (k : ℕ) (q : Criteria) (wanted : ℕ) (out₀ out 
                 ∙ (rw (turn Pass h) at (g .whole));
           }
 
-      pub again-match : Match ≡ verdictOf q e → Going index k q wanted out₀ (set out found (e .position)) num (e .previous) (found + 1) (read + 1)
+      pub again-match : Match ≡ verdictOf q e → Going index k q wanted out₀ (set out found (e .position .0)) num (e .previous) (found + 1) (read + 1)
       unfolding rest-of next act
       again-match h =
           record {
@@ -169,13 +169,13 @@ module _ (index : List ℕ) (k : ℕ) (q : Criteria) (wanted : ℕ) (out₀ out 
             count = omega arith;
             long = simp length-set (g .long);
             rest =
-                drop-set-lt (found + 1) out found (e .position) (omega arith)
+                drop-set-lt (found + 1) out found (e .position .0) (omega arith)
                 ∙ sym (drop-drop 1 found out) ∙ ap (drop 1) (g .rest) ∙ drop-drop 1 found out₀;
             whole =
                 let less : wanted - (found + 1) ≡ wanted - found - 1 = omega arith in
-                let more-found : take (found + 1) (set out found (e .position)) ≡ take found out ++ (e .position ∷ []) =
-                rw add-one (take-suc-set out found (e .position) (omega arith)) in
+                let more-found : take (found + 1) (set out found (e .position .0)) ≡ take found out ++ (e .position .0 ∷ []) =
+                rw add-one (take-suc-set out found (e .position .0) (omega arith)) in
                 rw less
-                (joined-after read (take found out) (e .position ∷ []) _ (next (wanted - found - 1)) more-found
+                (joined-after read (take found out) (e .position .0 ∷ []) _ (next (wanted - found - 1)) more-found
                 ∙ (rw (turn Match h) at (g .whole)));
           }

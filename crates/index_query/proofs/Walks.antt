@@ -25,9 +25,9 @@ pub early : (q : Criteria) (e : Item) → itemTime q e < q .begin → hit q e �
 unfolding hit
 early q e h = rw (lt-leb (q .begin) (itemTime q e) h) (and-false (eqb (e .hash) (q .hash)))
 
-pub undamaged : (e : Item) → e .seconds < 2147483648 → e .position ≤ 1099511627776 → damaged e ≡ false
+pub undamaged : (e : Item) → e .seconds < 2147483648 → e .position .0 ≤ 1099511627776 → damaged e ≡ false
 unfolding damaged
-undamaged e a b = rw (lt-leb 2147483648 (e .seconds) a, le-leb (e .position) 1099511627776 b)
+undamaged e a b = rw (lt-leb 2147483648 (e .seconds) a, le-leb (e .position .0) 1099511627776 b)
 
 module _ (look : ℕ → Item) (vis : Visit) where
   -- one link: a number that is not 0 and is below the one before

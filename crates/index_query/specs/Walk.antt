@@ -38,11 +38,11 @@ hit q e = eqb (e .hash) (q .hash) && (leb (q .begin) (itemTime q e) && leb (item
 
 -- "its seconds negative or its position outside 0 to 2^40": a negative number reads as one with its top bit set
 unfoldable pub damaged : Item → Bool
-damaged e = leb 2147483648 (e .seconds) || not (positionOk (e .position))
+damaged e = leb 2147483648 (e .seconds) || not (positionOk (e .position .0))
 
 -- "write the position": what an item adds to the output
 unfoldable pub matched : Criteria → Item → List ℕ
-matched q e = pick (hit q e) (e .position ∷ []) []
+matched q e = pick (hit q e) (e .position .0 ∷ []) []
 
 -- what is done at an item, with so many still wanted and the walk that would follow
 abbrev pub Visit : Type 0

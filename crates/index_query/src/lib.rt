@@ -11,13 +11,14 @@ ghost use Rattle.index_query.specs.Inner.{verdictOf};
 use index_file::IndexSizes;
 use index_file::Item;
 use units::Answer;
+use units::LogPosition;
 
 // What a query looks for, and the header's first time, on which item times rest.
-struct Criteria {
-    hash: u32,
-    begin: u64,
-    end: u64,
-    base: u64,
+pub struct Criteria {
+    pub hash: u32,
+    pub begin: u64,
+    pub end: u64,
+    pub base: u64,
 }
 
 // What reading an item comes to.
@@ -47,7 +48,7 @@ fn read_item(index: &[u8], slot_count: u64, u: u32) -> Item
 {
     let at = index_file::item_place(slot_count, u);
     let hash = codec::get_u32(index, at);
-    let position = codec::get_u64(index, at + 4);
+    let position = LogPosition(codec::get_u64(index, at + 4));
     let seconds = codec::get_u32(index, at + 12);
     let previous = codec::get_u32(index, at + 16);
     Item {
@@ -63,7 +64,7 @@ fn judge(criteria: Criteria, item: Item) -> Verdict
     requires { ⌜ criteria .base ≤ 281474976710655 ⌝ }
     ensures { λ r. ⌜ r ≡ verdictOf criteria item ⌝ }
 {
-    if (2147483648 <= item.seconds) | !(item.position <= POSITION_MAX) {
+    if (2147483648 <= item.seconds) | !(item.position.0 <= POSITION_MAX) {
         return Verdict::Damaged;
     }
     let time = criteria.base + 1000 * (item.seconds as u64);
@@ -126,7 +127,7 @@ fn walk_chain(index: &[u8], k: u64, criteria: Criteria, wanted: usize, out: &mut
         match verdict {
             Verdict::Damaged => break ended(Answer::ChainBroken, found, read),
             Verdict::Match => {
-                out[found] = item.position;
+                out[found] = item.position.0;
                 found += 1;
             }
             Verdict::Early => break ended(Answer::Done, found, read),

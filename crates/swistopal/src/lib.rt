@@ -7,10 +7,10 @@ ghost use Rattle.index_query.specs.Query.{queried};
 ghost use Rattle.listing.specs.Listing.{listing};
 ghost use Rattle.swistopal.specs.Interface.{position, offset, geometry, sizes, fields, tagAsked, append, readRecord, numbersFrom, stateIn, dispatch, readQueue, query, list};
 ghost use Rattle.machine.specs.Calls.{call};
-ghost use Rattle.dispatch.specs.Dispatch.{dispatcher};
-ghost use Rattle.dispatch.specs.Inner.{callOf};
+ghost use Rattle.dispatch.specs.Dispatch.{dispatcher, callOf};
 use commit_log::Geometry;
 use consume_queue::Tag;
+use dispatch_step::Progress;
 use dispatch_step::Sizes;
 use index_file::IndexSizes;
 use record::Fields;
@@ -167,21 +167,24 @@ pub extern "C" fn swistopal_dispatch(
             item_count,
         },
     };
-    let position = LogPosition(progress[0]);
+    let now = Progress {
+        position: LogPosition(progress[0]),
+    };
     let mut counts = counts_in(progress);
     let made = dispatch::dispatch(
         log,
         LogPosition(readable_end),
         sizes,
         directory,
-        position,
+        now,
         &mut counts,
         queues,
         index,
         budget,
     );
     let answer = made.answer;
-    put_progress(progress, made.position, &counts);
+    let position = made.progress.position;
+    put_progress(progress, position, &counts);
     *steps = made.steps;
     answer.number()
 }

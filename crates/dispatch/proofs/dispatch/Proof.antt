@@ -5,6 +5,19 @@ use borrow.Author.Needs.{needs}
 use Rattle.dispatch.proofs.dispatch.Statement.{statement}
 use Rattle.dispatch.proofs.dispatch.Tie as tie
 
+-- ---- places: behind check 1, check 3, check 2
+
+abbrev sized : tie.After-queue-rows → tie.Else1
+sized c = c .before
+
+abbrev listed : tie.After-progress-bad → tie.After-enum-told2
+listed c = c .before .before
+
+abbrev placed : tie.After-header-sound → tie.Else2
+placed c = c .before .before
+
+-- ---- needs
+
 returns : tie.Need-returns
 returns c = call-shut _ _ _ _ (c .refused .ensures) (door-sizes _ _ _ (refused (c .before .before .sizes-fit .ensures) (c .before .if1 .taken)))
 
@@ -12,36 +25,61 @@ queue-rows-requires : tie.Need-queue-rows-requires
 queue-rows-requires c κs = sizes-known _ _ _ (taken (c .before .sizes-fit .ensures) (c .if1 .left)) .entries
 
 returns-2 : tie.Need-returns-2
-returns-2 c = call-shut _ _ _ _ (c .refused2 .ensures) (door-directory _ _ _ (taken (c .before .before .before .before .before .sizes-fit .ensures) (c .before .before .before .before .if1 .left)) (c .before .before .before .queue-rows .ensures) (c .before .enum-told .given .1))
+returns-2 c =
+    let q = c .before .before .before in
+    let z = sized q in
+    call-shut _ _ _ _ (c .refused2 .ensures) (door-directory _ _ _ (taken (z .before .sizes-fit .ensures) (z .if1 .left)) (q .queue-rows .ensures) (c .before .enum-told .given .1))
 
 progress-bad-requires : tie.Need-progress-bad-requires
-progress-bad-requires c κs = sizes-known _ _ _ (taken (c .before .before .before .before .before .sizes-fit .ensures) (c .before .before .before .before .if1 .left)) .geometry
+progress-bad-requires c κs =
+    let z = sized (c .before .before .before) in
+    sizes-known _ _ _ (taken (z .before .sizes-fit .ensures) (z .if1 .left)) .geometry
 
 returns-3 : tie.Need-returns-3
 returns-3 c =
-    let d = c .before .before .before .before in
-    call-shut _ _ _ _ (c .refused3 .ensures) (door-position _ _ _ (taken (d .before .before .before .before .sizes-fit .ensures) (d .before .before .before .if1 .left)) (d .before .before .queue-rows .ensures) (d .enum-told2 .given .1) (c .before .before .progress-bad .ensures) (c .before .if2 .taken))
+    let p = c .before .before in
+    let l = listed p in
+    let q = l .before .before in
+    let z = sized q in
+    call-shut _ _ _ _ (c .refused3 .ensures)
+    (door-position _ _ _ (taken (z .before .sizes-fit .ensures) (z .if1 .left)) (q .queue-rows .ensures) (l .enum-told2 .given .1) (p .progress-bad .ensures) (c .before .if2 .taken))
 
 header-sound-requires : tie.Need-header-sound-requires
-header-sound-requires c κs = index-long _ _ _ (taken (c .before .before .before .before .before .before .before .before .sizes-fit .ensures) (c .before .before .before .before .before .before .before .if1 .left))
+header-sound-requires c κs =
+    let z = sized (listed (c .before .before) .before .before) in
+    index-long _ _ _ (taken (z .before .sizes-fit .ensures) (z .if1 .left))
 
 returns-4 : tie.Need-returns-4
 returns-4 c =
-    let d = c .before .before .before .before .before .before .before in
+    let h = c .before .before in
+    let p = placed h in
+    let l = listed (p .before) in
+    let q = l .before .before in
+    let z = sized q in
     call-shut _ _ _ _ (c .refused4 .ensures)
-    (door-header _ _ _ (taken (d .before .before .before .before .sizes-fit .ensures) (d .before .before .before .if1 .left)) (d .before .before .queue-rows .ensures) (d .enum-told2 .given .1) (c .before .before .before .before .before .progress-bad .ensures) (c .before .before .before .before .if2 .left) (refused (c .before .before .header-sound .ensures) (c .before .if3 .taken)))
+    (door-header _ _ _ (taken (z .before .sizes-fit .ensures) (z .if1 .left)) (q .queue-rows .ensures) (l .enum-told2 .given .1) (p .before .progress-bad .ensures) (p .if2 .left) (refused (h .header-sound .ensures) (c .before .if3 .taken)))
 
-run-steps-requires : tie.Need-run-steps-requires
-run-steps-requires c κs =
-    let d = c .before .before .before .before .before .before .before .before .before in
-    door-sound _ _ _ (taken (d .before .before .before .before .sizes-fit .ensures) (d .before .before .before .if1 .left)) (d .before .before .queue-rows .ensures) (d .enum-told2 .given .1) (c .before .before .before .before .before .before .before .progress-bad .ensures) (c .before .before .before .before .before .before .if2 .left) (taken (c .before .before .before .before .header-sound .ensures) (c .before .before .before .if3 .left))
+run-call-requires : tie.Need-run-call-requires
+run-call-requires c κs =
+    let o = c .before .before .before in
+    let h = o .before in
+    let p = placed h in
+    let l = listed (p .before) in
+    let q = l .before .before in
+    let z = sized q in
+    door-sound _ _ _ (taken (z .before .sizes-fit .ensures) (z .if1 .left)) (q .queue-rows .ensures) (l .enum-told2 .given .1) (p .before .progress-bad .ensures) (p .if2 .left) (taken (h .header-sound .ensures) (o .if3 .left))
 
 returns-5 : tie.Need-returns-5
 returns-5 c =
-    let e = c .before .before .before .before in
-    let d = e .before .before .before .before .before .before .before .before .before .before in
-    call-runs _ _ _ _ (e .run-steps .ensures)
-    (door-open _ _ _ (taken (d .before .before .before .before .sizes-fit .ensures) (d .before .before .before .if1 .left)) (d .before .before .queue-rows .ensures) (d .enum-told2 .given .1) (e .before .before .before .before .before .before .before .before .progress-bad .ensures) (e .before .before .before .before .before .before .before .if2 .left) (taken (e .before .before .before .before .before .header-sound .ensures) (e .before .before .before .before .if3 .left)))
+    let r = c .before .before .before .before in
+    let o = r .before .before .before .before in
+    let h = o .before in
+    let p = placed h in
+    let l = listed (p .before) in
+    let q = l .before .before in
+    let z = sized q in
+    call-runs _ _ _ _ (r .run-call .ensures)
+    (door-open _ _ _ (taken (z .before .sizes-fit .ensures) (z .if1 .left)) (q .queue-rows .ensures) (l .enum-told2 .given .1) (p .before .progress-bad .ensures) (p .if2 .left) (taken (h .header-sound .ensures) (o .if3 .left)))
 
 pub dispatch-spec : {M : Type 1} → statement M
 dispatch-spec =
@@ -62,7 +100,7 @@ dispatch-spec =
     (search needs)
     (search needs)
     returns-4
-    run-steps-requires
+    run-call-requires
     (search needs)
     (search needs)
     returns-5)

@@ -1,64 +1,102 @@
--- `dispatch::run_steps` meets its contract: before each turn the steps counted are done; then one is stopped, or the budget is spent. Assumes nothing.
+-- `dispatch::run_steps` meets its contract: before each turn the steps counted are done; then one is stopped, the list is too short, or the budget is spent. Assumes nothing.
 use Prim.Native.Nat.{_-_}
+use mathlib.Core.Path.{_≡_, refl, _∙_}
 use native.Mathlib.Omega.{arith}
-use mathlib.Core.Path.{_≡_, sym}
 use lib.ListN.{length}
-use Rattle.dispatch_step.specs.Inner.{fixedOf, viewOf, stateOf}
-use Rattle.dispatch_step.proofs.Going.{Going, going-start, going-far}
-use Rattle.dispatch.proofs.Running.{going-on, going-stop, going-spent}
+use Rattle.dispatch_request.specs.Request.{viewOf}
+use Rattle.dispatch_step.specs.Step.{fixedOf, stateOf}
+use Rattle.dispatch_step.proofs.Going.{Going, going-start}
+use Rattle.dispatch.proofs.Running.{going-on, going-steps, runs-stopped, runs-long, runs-spent}
 use borrow.Author.Needs.{needs}
 use Rattle.dispatch.proofs.run_steps.Statement.{statement}
 use Rattle.dispatch.proofs.run_steps.Tie as tie
 
 abbrev Inv-loop : tie.InvT-loop
-Inv-loop log readable-end sizes directory counts₀ queues₀ index₀ budget requests₀ list₀ at₀ steps₀ counts queues index requests list at steps =
-    Going (fixedOf sizes directory) (viewOf log readable-end) (stateOf at₀ counts₀ queues₀ index₀) (stateOf at counts queues index) steps budget × (length list ≡ 64)
+Inv-loop log readable-end sizes directory counts₀ queues₀ index₀ budget list₀ requests₀ now₀ steps₀ counts queues index list requests now steps =
+    Going (fixedOf sizes directory) (viewOf log readable-end) (stateOf now₀ counts₀ queues₀ index₀) (stateOf now counts queues index) steps budget × (length list ≡ length list₀)
 
 abbrev μ-loop : tie.MeasureT-loop
-μ-loop log readable-end sizes directory counts₀ queues₀ index₀ budget requests₀ list₀ at₀ steps₀ counts queues index requests list at steps = budget - steps
+μ-loop log readable-end sizes directory counts₀ queues₀ index₀ budget list₀ requests₀ now₀ steps₀ counts queues index list requests now steps = budget - steps
+
+-- ---- places
+
+abbrev start : tie.At-loop Inv-loop μ-loop → tie.Start Inv-loop μ-loop
+start c = c .before .before .before .before .before .before
+
+abbrev turn : tie.After-advance Inv-loop μ-loop → tie.In-loop Inv-loop μ-loop
+turn c = c .before .before .before .before .before .before
+
+abbrev advanced : tie.After-struct-known Inv-loop μ-loop → tie.After-advance Inv-loop μ-loop
+advanced c = c .before .before .before .before .before .before .before .before
+
+-- ---- needs
 
 loop-holds : tie.Need-loop-holds Inv-loop μ-loop
-loop-holds c = (going-start _ _ _ _ (c .before .before .before .before .pre), search needs)
-
-slice-aggregate-advance : tie.Need-slice-aggregate-advance Inv-loop μ-loop
-slice-aggregate-advance c = sym (c .before .before .before .before .before .before .loop .inv .1)
+loop-holds c = (going-start _ _ _ _ (c .before .before .before .before .before .pre .0), refl)
 
 advance-requires : tie.Need-advance-requires Inv-loop μ-loop
-advance-requires c κs = (c .before .before .before .before .before .before .loop .inv .0 .sound, omega (arith, c .before .before .before .before .before .before .loop .inv .1))
+advance-requires c κs =
+    let t = c .before .before .before .before .before .before in
+    let p = start t .pre in
+    (t .loop .inv .0 .sound, omega (arith, t .loop .inv .1, p .1), omega (arith, t .loop .inv .1, p .2))
 
-step-requires : tie.Need-step-requires Inv-loop μ-loop
-step-requires c κs =
-    let a = c .before .before .before .before .before .before .before .before .before .before .before .before in
-    going-far _ _ _ _ _ _ (a .before .before .before .before .before .before .before .loop .inv .0) _ (a .advance .ensures .0) (omega arith) .sound
+add-steps : tie.Need-add-steps Inv-loop μ-loop
+add-steps c = let i = turn (advanced c) in omega (arith, advanced c .advance .ensures .within, start (i .before) .fits .budget)
 
-add-steps-2 : tie.Need-add-steps-2 Inv-loop μ-loop
-add-steps-2 c = let n = c .before .before .before .before .before .before .before .before .before .before .before in omega (arith, n .before .before .before .before .before .before .before .before .before .before .before .before .before .before .before .loop-test .taken, n .if1 .taken, n .before .before .before .before .before .before .before .before .before .before .before .before .before .before .before .before .before .before .before .before .before .good)
+loop-less : tie.Need-loop-less Inv-loop μ-loop
+loop-less c =
+    let a = advanced (c .before .before) in
+    let i = turn a in
+    let t = i .before .loop .inv in
+    omega (arith, going-steps _ _ _ _ _ _ _ (t .0) (t .1) (a .advance .ensures) (c .enum-told .given .1) (i .loop-test .taken), a .advance .ensures .within, i .loop-test .taken)
 
 loop-again : tie.Need-loop-again Inv-loop μ-loop
 loop-again c =
-    let d = c .before .before .before .before .before .before .before in
-    let a = d .before .before .before .before .before .before .before .before .before .before .before .before .before in
-    (going-on _ _ _ _ _ _ (going-far _ _ _ _ _ _ (a .before .before .before .before .before .before .before .loop .inv .0) _ (a .advance .ensures .0) (omega arith)) (d .step .ensures) (c .before .stepped .given .1) (omega arith), omega (arith, d .before .before .before .before .before .before .before .before .list2 .given, a .before .before .before .before .before .before .before .loop .inv .1))
+    let k = c .before .before in
+    let t = turn (advanced k) .before .loop .inv in
+    (going-on _ _ _ _ _ _ _ (t .0) (t .1) (advanced k .advance .ensures), k .before .before .before .list .given ∙ t .1)
 
 same-length : tie.Need-same-length Inv-loop μ-loop
-same-length c = let d = c .before .before .before .before .before .before .before in let a = d .before .before .before .before .before .before .before .before .before .before .before .before .before in omega (arith, c .before .before .before .before .before .before .queues2 .given, d .before .before .before .before .before .before .before .before .before .before .before .before .queues .given, a .before .before .before .before .before .before .before .loop .inv .0 .queued)
+same-length c = let k = c .before .before .before .before in k .before .before .before .before .before .before .before .queues .given ∙ turn (advanced k) .before .loop .inv .0 .queued
 
 same-length-2 : tie.Need-same-length-2 Inv-loop μ-loop
-same-length-2 c = let d = c .before .before .before .before .before .before .before in let a = d .before .before .before .before .before .before .before .before .before .before .before .before .before in omega (arith, c .before .before .before .before .index2 .given, d .before .before .before .before .before .before .before .before .before .before .index .given, a .before .before .before .before .before .before .before .loop .inv .0 .indexed)
+same-length-2 c = let k = c .before .before .before .before in k .before .before .before .before .before .index .given ∙ turn (advanced k) .before .loop .inv .0 .indexed
+
+same-length-3 : tie.Need-same-length-3 Inv-loop μ-loop
+same-length-3 c = let k = c .before .before .before .before in k .before .before .before .list .given ∙ turn (advanced k) .before .loop .inv .1
 
 returns : tie.Need-returns Inv-loop μ-loop
 returns c =
-    let d = c .before .before .before .before .before .before .before in
-    let a = d .before .before .before .before .before .before .before .before .before .before .before .before .before in
-    going-stop _ _ _ _ _ _ (going-far _ _ _ _ _ _ (a .before .before .before .before .before .before .before .loop .inv .0) _ (a .advance .ensures .0) (omega arith)) (d .step .ensures) (c .before .stepped2 .given .1) (omega arith)
+    let a = advanced (c .before .before .before .before) in
+    let t = turn a .before .loop .inv in
+    runs-stopped _ _ _ _ _ _ _ (t .0) (t .1) (a .advance .ensures) (c .before .before .ended .given .1) (c .ran-of .ensures)
 
-loop-again-2 : tie.Need-loop-again-2 Inv-loop μ-loop
-loop-again-2 c =
-    let a = c .before .before .before .before .before .before .before .before .before in
-    (going-far _ _ _ _ _ _ (a .before .before .before .before .before .before .before .loop .inv .0) _ (a .advance .ensures .0) (omega arith), omega (arith, c .before .before .before .before .list2 .given, a .before .before .before .before .before .before .before .loop .inv .1))
+same-length-4 : tie.Need-same-length-4 Inv-loop μ-loop
+same-length-4 c = let k = c .before .before .before in k .before .before .before .before .before .before .before .queues .given ∙ turn (advanced k) .before .loop .inv .0 .queued
+
+same-length-5 : tie.Need-same-length-5 Inv-loop μ-loop
+same-length-5 c = let k = c .before .before .before in k .before .before .before .before .before .index .given ∙ turn (advanced k) .before .loop .inv .0 .indexed
+
+same-length-6 : tie.Need-same-length-6 Inv-loop μ-loop
+same-length-6 c = let k = c .before .before .before in k .before .before .before .list .given ∙ turn (advanced k) .before .loop .inv .1
 
 returns-2 : tie.Need-returns-2 Inv-loop μ-loop
-returns-2 c = going-spent _ _ _ _ _ _ (c .before .loop .inv .0) (c .loop-test .left)
+returns-2 c =
+    let a = advanced (c .before .before .before) in
+    let t = turn a .before .loop .inv in
+    runs-long _ _ _ _ _ _ _ (t .0) (t .1) (a .advance .ensures) (c .before .enum-told2 .given .1) (c .ran-of2 .ensures)
+
+same-length-7 : tie.Need-same-length-7 Inv-loop μ-loop
+same-length-7 c = c .before .before .loop .inv .0 .queued
+
+same-length-8 : tie.Need-same-length-8 Inv-loop μ-loop
+same-length-8 c = c .before .before .loop .inv .0 .indexed
+
+same-length-9 : tie.Need-same-length-9 Inv-loop μ-loop
+same-length-9 c = c .before .before .loop .inv .1
+
+returns-3 : tie.Need-returns-3 Inv-loop μ-loop
+returns-3 c = runs-spent _ _ _ _ _ _ _ (c .before .before .loop .inv .0) (c .before .loop-test .left) (c .ran-of3 .ensures)
 
 pub run-steps-spec : {M : Type 1} → statement M
 run-steps-spec =
@@ -68,20 +106,25 @@ run-steps-spec =
     μ-loop
     loop-holds
     (search needs)
-    slice-aggregate-advance
     advance-requires
+    add-steps
     (search needs)
-    step-requires
-    (search needs)
-    add-steps-2
-    (search needs)
+    loop-less
     loop-again
+    (search needs)
     (search needs)
     same-length
     same-length-2
+    same-length-3
     returns
     (search needs)
-    loop-again-2
     (search needs)
+    same-length-4
+    same-length-5
+    same-length-6
+    returns-2
     (search needs)
-    returns-2)
+    same-length-7
+    same-length-8
+    same-length-9
+    returns-3)

@@ -1,90 +1,158 @@
 -- `dispatch_ahead::read_ahead` meets its contract: before each turn the records read are kept; the list's part that was lent lies behind their items. Assumes nothing.
-use Prim.Native.Nat.{_-_, _<_}
-use mathlib.Core.Path.{_∙_}
+use Prim.Native.Nat.{_*_, _-_, _<_}
+use mathlib.Core.Path.{_≡_, refl, _∙_}
 use native.Mathlib.Omega.{arith}
-use lib.ListN.{length}
+use lib.ListN.{length, length-take, length-drop}
 use borrow.Author.Tests.{ltb-true}
 use Rattle.codec.proofs.Choices.{both}
-use Rattle.dispatch_step.specs.Inner.{fixedOf, viewOf}
-use Rattle.dispatch_ahead.proofs.Reading.{Reading, reading-start, reading-end, reading-lent, reading-on, next-below}
+use Rattle.dispatch_request.specs.Request.{viewOf}
+use Rattle.dispatch_step.specs.declared.Sizes.{Sizes}
+use Rattle.dispatch_step.specs.Step.{fixedOf}
+use Rattle.dispatch_ahead.proofs.Reading.{Reading, reading-start, reading-full, reading-stop, reading-blank, reading-long, reading-on, items-fit, next-below, reads-with}
 use borrow.Author.Needs.{needs}
 use Rattle.dispatch_ahead.proofs.read_ahead.Statement.{statement}
 use Rattle.dispatch_ahead.proofs.read_ahead.Tie as tie
 
+-- the sizes are not in the loop's reach, the geometry is
 abbrev Inv-loop : tie.InvT-loop
-Inv-loop log readable-end sizes directory most requests₀ list₀ at₀ records₀ items₀ requests list at records items =
-    Reading (fixedOf sizes directory) (viewOf log readable-end) at₀ most (length list₀) requests list at records items
+Inv-loop log readable-end directory most requests₀ list₀ at₀ records₀ items₀ geometry requests list at records items =
+    (sizes : Sizes) → sizes .geometry ≡ geometry
+    → Reading (fixedOf sizes directory) (viewOf log readable-end) at₀ most (length list₀) requests list at records items
 
 abbrev μ-loop : tie.MeasureT-loop
-μ-loop log readable-end sizes directory most requests₀ list₀ at₀ records₀ items₀ requests list at records items =
-    16 - records
+μ-loop log readable-end directory most requests₀ list₀ at₀ records₀ items₀ geometry requests list at records items = 16 - records
 
-loop-holds : tie.Need-loop-holds Inv-loop μ-loop
-loop-holds c = reading-start _ _ _ _ _ _ (c .before .before .before .pre .1)
+-- ---- places
+
+abbrev start : tie.At-loop Inv-loop μ-loop → tie.Start Inv-loop μ-loop
+start c = c .before .before .before .before .before
+
+abbrev in-turn : tie.After-slice-known2 Inv-loop μ-loop → tie.In-loop Inv-loop μ-loop
+in-turn c = c .before .before .before .before
+
+abbrev on-record : tie.After-put-request Inv-loop μ-loop → tie.After-next3 Inv-loop μ-loop
+on-record c = c .before .before .before
+
+abbrev in-turn-of : tie.After-put-request Inv-loop μ-loop → tie.In-loop Inv-loop μ-loop
+in-turn-of c = in-turn (on-record c .before .before)
+
+-- ---- what is known there
+
+inv : (c : tie.At-loop Inv-loop μ-loop)
+    → let a = start c .args in
+    Reading (fixedOf (a .sizes) (a .directory .now)) (viewOf (a .log .now) (a .readable-end)) (a .position) (a .most) (length (a .list .now))
+    (c .loop .requests) (c .loop .list) (c .loop .at) (c .loop .records) (c .loop .items)
+inv c = c .loop .inv (start c .args .sizes) refl
 
 -- another may be read
-going : (c : tie.In-loop Inv-loop μ-loop) → (c .before .loop .records < 16) × (c .before .loop .records < c .before .before .before .before .before .args .most)
-going c = let b = both _ _ (c .loop-test .taken) in (ltb-true _ _ (b .0), ltb-true _ _ (b .1))
+going : (c : tie.In-loop Inv-loop μ-loop)
+    → (c .before .loop .records < 16) × (c .before .loop .records < start (c .before) .args .most) × (c .before .loop .items < length (c .before .loop .list))
+going c =
+    let b = both _ _ (c .loop-test .taken) in
+    let d = both _ _ (b .0) in
+    (ltb-true _ _ (d .0), ltb-true _ _ (d .1), ltb-true _ _ (b .1))
 
-next-request-requires : tie.Need-next-request-requires Inv-loop μ-loop
-next-request-requires c κs =
-    let s = c .before .before .before .before .before .before .pre in
-    (s .0, c .before .before .loop .inv .within, s .2)
+-- a slice is not larger than memory
+size : (c : tie.At-loop Inv-loop μ-loop) → length (start c .args .list .now) * 4 < 18446744073709551616
+size c = omega (arith, start c .good .1 .1 .1 .1 .1 .1 .1 .0 .1)
 
-put-request-requires : tie.Need-put-request-requires Inv-loop μ-loop
-put-request-requires c κs = let o = going (c .before .before .before .before .before .before .before .before .before .before) in omega arith
+-- ---- needs
 
-add-items : tie.Need-add-items Inv-loop μ-loop
-add-items c =
-    let d = c .before .before .before .before .before .before .before .before .before in
-    let g = d .before .before .before .before .loop .inv in
-    omega (arith, g .fits, g .long, d .list .given .1, c .before .before .before .if1 .left, d .before .before .before .before .before .before .before .before .good .1 .1 .1 .1 .1 .1 .1 .0 .0)
+loop-holds : tie.Need-loop-holds Inv-loop μ-loop
+loop-holds c sizes e = reading-start _ _ _ _ _ _ (rw e (c .before .before .before .before .pre .1))
 
-add-t15 : tie.Need-add-t15 Inv-loop μ-loop
-add-t15 c =
-    let d = c .before .before .before .before .before .before .before .before .before .before .before .before in
-    let l = next-below (d .next-request .ensures) (c .before .before .before .before .before .before .before .before .next .given .1) in
-    omega (arith, d .before .before .before .loop .inv .within, d .before .before .before .before .before .before .before .pre .0 .top)
+mul-read-request : tie.Need-mul-read-request Inv-loop μ-loop
+mul-read-request c = omega (arith, going c, inv (c .before) .long, size (c .before))
 
-add-records : tie.Need-add-records Inv-loop μ-loop
-add-records c = let o = going (c .before .before .before .before .before .before .before .before .before .before .before .before .before .before) in omega arith
+sub-read-request : tie.Need-sub-read-request Inv-loop μ-loop
+sub-read-request c = omega (arith, going c)
 
-loop-less : tie.Need-loop-less Inv-loop μ-loop
-loop-less c = let o = going (c .before .before .before .before .before .before .before .before .before .before .before .before .before .before) in omega arith
+part-read-request-start : tie.Need-part-read-request-start Inv-loop μ-loop
+part-read-request-start c = omega (arith, going c)
 
-loop-again : tie.Need-loop-again Inv-loop μ-loop
-loop-again c =
-    let a = c .before .before .before .before .before in
-    let d = a .before .before .before .before .before .before in
-    let o = going (d .before .before .before) in
-    let p = c .before .before .before .put-request .ensures in
-    reading-on _ _ _ _ _ _ _ _ _ _ (d .before .before .before .before .loop .inv) _ (d .list .given) (d .before .next-request .ensures) (a .before .before .before .next .given .1) (a .if1 .left) _ (p .0) (p .1) (o .0) (o .1)
+part-read-request-end : tie.Need-part-read-request-end Inv-loop μ-loop
+part-read-request-end c = omega (arith, going c)
+
+read-request-requires : tie.Need-read-request-requires Inv-loop μ-loop
+read-request-requires c κs =
+    let t = c .before .before in
+    let s = start t .pre in
+    (s .0, inv t .within, s .2, simp (length-take, length-drop) (omega (arith, going (c .before))))
 
 same-length : tie.Need-same-length Inv-loop μ-loop
-same-length c = c .before .loop .inv .long
+same-length c =
+    let k = c .before .before .before .before in
+    k .before .list .given .1 ∙ inv (in-turn k .before) .long
 
 returns : tie.Need-returns Inv-loop μ-loop
-returns c = reading-end _ _ _ _ _ _ _ _ _ _ (c .before .loop .inv)
+returns c =
+    let k = c .before .before .before .before in
+    let t = in-turn k in
+    reading-stop _ _ _ _ _ _ _ _ _ _ (inv (t .before)) _ (k .before .list .given) (k .before .before .read-request .ensures) (going t .1) (c .before .before .next .given .1) (c .batch-of .ensures)
 
 same-length-2 : tie.Need-same-length-2 Inv-loop μ-loop
 same-length-2 c =
-    let d = c .before .before .before in
-    d .list .given .1 ∙ d .before .before .before .before .loop .inv .long
+    let k = c .before .before .before .before in
+    k .before .list .given .1 ∙ inv (in-turn k .before) .long
 
 returns-2 : tie.Need-returns-2 Inv-loop μ-loop
 returns-2 c =
-    let d = c .before .before .before in
-    reading-end _ _ _ _ _ _ _ _ _ _ (reading-lent _ _ _ _ _ _ _ _ _ _ (d .before .before .before .before .loop .inv) (d .before .next-request .last .1 .1 .1 .1 .1 .0) (d .list .given))
+    let k = c .before .before .before .before in
+    let t = in-turn k in
+    reading-blank _ _ _ _ _ _ _ _ _ _ (inv (t .before)) _ (k .before .list .given) (k .before .before .read-request .ensures) (going t .1) (c .before .before .next2 .given .1) (c .batch-of2 .ensures)
 
 same-length-3 : tie.Need-same-length-3 Inv-loop μ-loop
 same-length-3 c =
-    let d = c .before .before .before .before .before .before in
-    d .list .given .1 ∙ d .before .before .before .before .loop .inv .long
+    let k = c .before .before .before in
+    k .before .list .given .1 ∙ inv (in-turn k .before) .long
 
 returns-3 : tie.Need-returns-3 Inv-loop μ-loop
 returns-3 c =
-    let d = c .before .before .before .before .before .before in
-    reading-end _ _ _ _ _ _ _ _ _ _ (reading-lent _ _ _ _ _ _ _ _ _ _ (d .before .before .before .before .loop .inv) (d .before .next-request .last .1 .1 .1 .1 .1 .0) (d .list .given))
+    let k = c .before .before .before in
+    let t = in-turn k in
+    reading-long _ _ _ _ _ _ _ _ _ _ (inv (t .before)) _ (k .before .list .given) (k .before .before .read-request .ensures) (going t .1) (c .before .enum-told .given .1) (c .batch-of3 .ensures)
+
+put-request-requires : tie.Need-put-request-requires Inv-loop μ-loop
+put-request-requires c κs = omega (arith, going (in-turn (c .before .before .before .before)))
+
+add-items : tie.Need-add-items Inv-loop μ-loop
+add-items c =
+    let p = c .before in
+    let q = on-record p in
+    let k = q .before .before in
+    let t = in-turn k .before in
+    let l = items-fit _ _ _ _ _ _ _ _ _ _ (inv t) _ (k .before .list .given) (k .before .before .read-request .ensures) (q .next3 .given .1) _ (p .put-request .ensures .0) (p .put-request .ensures .1) in
+    omega (arith, l, inv t .long, size t)
+
+add-t34 : tie.Need-add-t34 Inv-loop μ-loop
+add-t34 c =
+    let q = on-record (c .before .before .before) in
+    let k = q .before .before in
+    let t = in-turn k .before in
+    let l = next-below _ _ _ _ (k .before .before .read-request .ensures) (q .next3 .given .1) in
+    omega (arith, l, inv t .within, start t .pre .0 .top)
+
+add-records : tie.Need-add-records Inv-loop μ-loop
+add-records c = omega (arith, going (in-turn-of (c .before .before .before)))
+
+loop-less : tie.Need-loop-less Inv-loop μ-loop
+loop-less c = omega (arith, going (in-turn-of (c .before .before .before)))
+
+loop-again : tie.Need-loop-again Inv-loop μ-loop
+loop-again c sizes e =
+    let p = c .before .before .before in
+    let q = on-record p in
+    let k = q .before .before in
+    let t = in-turn k in
+    reading-on _ _ _ _ _ _ _ _ _ _ (t .before .loop .inv sizes e) _ (k .before .list .given) (reads-with _ _ _ e (k .before .before .read-request .ensures)) (q .next3 .given .1) _ (p .put-request .ensures .0) (p .put-request .ensures .1) (going t .0) (going t .1)
+
+same-length-4 : tie.Need-same-length-4 Inv-loop μ-loop
+same-length-4 c = inv (c .before .before) .long
+
+returns-4 : tie.Need-returns-4 Inv-loop μ-loop
+returns-4 c =
+    let t = c .before .before in
+    reading-full _ _ _ _ _ _ _ _ _ _ (inv t) (c .before .loop-test .left) (omega (arith, inv t .long, start t .pre .3)) (c .batch-of4 .ensures)
 
 pub read-ahead-spec : {M : Type 1} → statement M
 read-ahead-spec =
@@ -93,23 +161,30 @@ read-ahead-spec =
     Inv-loop
     μ-loop
     loop-holds
+    mul-read-request
+    sub-read-request
+    part-read-request-start
+    part-read-request-end
+    read-request-requires
     (search needs)
     (search needs)
+    same-length
+    returns
     (search needs)
     (search needs)
-    next-request-requires
+    same-length-2
+    returns-2
     (search needs)
     (search needs)
+    same-length-3
+    returns-3
     (search needs)
     put-request-requires
     add-items
-    add-t15
+    add-t34
     add-records
     loop-less
     loop-again
-    same-length
-    returns
-    same-length-2
-    returns-2
-    same-length-3
-    returns-3)
+    (search needs)
+    same-length-4
+    returns-4)

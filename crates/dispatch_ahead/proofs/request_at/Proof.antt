@@ -31,4 +31,7 @@ request-at-spec =
     (search needs)
     (search needs)
     (search needs)
+    (search needs)
+    (search needs)
+    (search needs)
     returns)

@@ -1,25 +1,27 @@
--- `index_file::slots_bad` meets its contract: the unique key's slot, then those of the parts of KEYS. Assumes nothing.
-use Rattle.properties.proofs.Places.{keys-inside, unique-key-inside}
-use Rattle.index_file.proofs.Items.{slots-first, slots-rest}
+-- `index_file::slots_bad` meets its contract: the slots read and those left decide. Assumes nothing.
+use Prim.Native.Nat.{_-_}
+use lib.ListN.{length}
+use Rattle.index_file.proofs.Items.{slot-judged}
+use Rattle.index_file.proofs.Listed.{Judges, judges-start, judges-on, judges-end}
 use borrow.Author.Needs.{needs}
 use Rattle.index_file.proofs.slots_bad.Statement.{statement}
 use Rattle.index_file.proofs.slots_bad.Tie as tie
 
-unique-slot-bad-requires : tie.Need-unique-slot-bad-requires
-unique-slot-bad-requires c κs =
-    let p = c .before .before .pre in
-    (p .0, p .1, p .2, unique-key-inside _ (p .3))
+abbrev Inv-loop : tie.InvT-loop
+Inv-loop index slot-count list used bad₀ i₀ bad i = Judges slot-count index list bad i
 
-returns : tie.Need-returns
-returns c = slots-first _ _ _ _ _ (c .before .before .before .before .pre .3) (c .before .unique-slot-bad .ensures) (c .if1 .taken)
+abbrev μ-loop : tie.MeasureT-loop
+μ-loop index slot-count list used bad₀ i₀ bad i = length list - i
 
-value-requires : tie.Need-value-requires
-value-requires c κs = keys-inside _ (c .before .before .before .before .pre .3)
+loop-holds : tie.Need-loop-holds Inv-loop μ-loop
+loop-holds c = judges-start _ _ _
 
-returns-2 : tie.Need-returns-2
-returns-2 c =
-    slots-rest _ _ _ _ _ _ (c .before .before .before .before .before .before .pre .3) (c .before .value .ensures) (c .before .before .before .unique-slot-bad .ensures) (c .before .before .if1 .left) (c .key-slots-bad .ensures)
+loop-again : tie.Need-loop-again Inv-loop μ-loop
+loop-again c = judges-on _ _ _ _ _ (c .before .before .before .before .loop .inv) (c .before .before .before .loop-test .taken) (slot-judged _ _ _ (c .before .before .before .before .before .used-count .ensures) (c .before .slot-place .ensures .place) (c .get-u32 .ensures))
+
+returns : tie.Need-returns Inv-loop μ-loop
+returns c = judges-end _ _ _ _ _ (c .before .loop .inv) (c .loop-test .left)
 
 pub slots-bad-spec : {M : Type 1} → statement M
 slots-bad-spec =
-    tie.close (tie.spec unique-slot-bad-requires returns value-requires (search needs) returns-2)
+    tie.close (tie.spec Inv-loop μ-loop (search needs) loop-holds (search needs) (search needs) (search needs) (search needs) (search needs) (search needs) loop-again returns)

@@ -6,7 +6,7 @@ use Rattle.swistopal.proofs.swistopal_dispatch.Tie as tie
 
 returns : tie.Need-returns
 returns c =
-    let d = c .before .before .before .before .before .before .before .before in
+    let d = c .before .before .before .before .before .before .before .before .before in
     dispatched _ _ _ _ _ _ _ _ _ _ _ (d .dispatch .ensures) (d .before .before .before .before .counts-in .ensures) (c .before .put-progress .ensures) (c .number .ensures)
 
 pub swistopal-dispatch-spec : {M : Type 1} → statement M

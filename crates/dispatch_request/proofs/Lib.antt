@@ -1,0 +1,4 @@
+pub mod Duties
+pub mod Keys
+pub mod Gathering
+pub mod Standing

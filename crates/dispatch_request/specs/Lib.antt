@@ -1,0 +1,4 @@
+pub mod Request
+pub mod Reading
+pub mod Inner
+pub mod Claims
