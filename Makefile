@@ -12,7 +12,7 @@
 #
 # SWISTOPAL_LIB_DIR names another archive's directory, LISTER another lister: both must be there already.
 
-VERSION = 0.1.0
+VERSION = 0.2.0
 PREFIX ?= /usr/local
 DESTDIR ?=
 CFLAGS ?= -O2
@@ -20,21 +20,26 @@ COUNT ?= 20000
 SEED ?= 1
 BENCH ?=
 
-built_lib_dir := $(CURDIR)/target/staticlib
+built_lib_dir := $(CURDIR)/target/lib
 built_lister := target/bin/lister
 SWISTOPAL_LIB_DIR ?= $(built_lib_dir)
 LISTER ?= $(built_lister)
 export SWISTOPAL_LIB_DIR
 
 archive := $(SWISTOPAL_LIB_DIR)/libswistopal.a
-tool_sources := $(wildcard cli/Cargo.* cli/src/*.rs bindings/rust/Cargo.* bindings/rust/*.rs bindings/rust/src/*.rs)
+tool_sources := $(wildcard cli/Cargo.* cli/src/*.rs cli/src/*/*.rs bindings/rust/Cargo.* bindings/rust/*.rs bindings/rust/src/*.rs)
 sources := crates.txt $(shell find crates -name '*.rt' -o -name '*.antt')
 
 .PHONY: all tour install example compare mutants bench interface cli
 all: $(archive)
 
+# Two objects, each proved: the operations, and the functions that tell what a record makes. Apart, they leave the compiler free to take what dispatch
+# calls into its loop.
 $(built_lib_dir)/libswistopal.a: $(sources)
 	rt staticlib swistopal
+	rt staticlib swistopal_facts
+	rm -rf $(@D) && mkdir -p $(@D)
+	cd $(@D) && ar x ../staticlib/libswistopal.a && ar x ../staticlib/libswistopal_facts.a && ar rcsD $(@F).part *.o && rm *.o && mv $(@F).part $(@F)
 
 $(built_lister): $(sources)
 	rt check lister

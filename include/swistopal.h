@@ -1,25 +1,26 @@
 /*
  * Swistopal: RocketMQ's commit log, consume queues and index file on lent buffers.
  *
- * Six functions. Each is total: any numbers and any bytes bring an answer. The answer and every lent byte afterwards
- * depend on the arguments alone; nothing is kept between calls.
+ * Six operations, and six small functions that tell what a record makes. Each is total: any numbers and any bytes bring
+ * an answer. The answer and every lent byte afterwards depend on the arguments alone; nothing is kept between calls.
  *
  * A buffer is a pointer and a length. The pointer of a buffer of length 0 may be anything that is not null. A pointer
- * to a fixed array or to a single number is never null.
+ * to a struct or to a single number is never null.
  *
  * A buffer that a call writes must not overlap any other buffer of that call. Buffers that a call only reads may
- * overlap each other. Arrays and single numbers that a call writes count as buffers here.
+ * overlap each other. Structs and single numbers that a call writes count as buffers here.
  *
- * Numbers that Java has as signed (queue id, flags, tag code, ..) are passed as their bit patterns, unsigned.
+ * Every member of a struct is a uint64_t. Numbers that Java has as signed (queue id, flags, tag code, ..) are passed as
+ * their bit patterns, unsigned.
  *
  * Sizes
  *   S  segment size            1,024 to 1,073,741,824
  *   B  first log position      a multiple of S; B + log_len at most 2^40
  *      log_len                 a positive multiple of S
  *   R  entries of a queue      1 to 300,000, 20 bytes each
- *   K  slots of the index      1 to 5,000,000
- *   N  items of the index      2 to 20,000,000; place 0 is never used, so N - 1 items fit
- *      index_len               40 + 4 K + 20 N
+ *   K  slots of an index file  1 to 5,000,000
+ *   N  items of an index file  2 to 20,000,000; place 0 is never used, so N - 1 items fit
+ *      length of an index file 40 + 4 K + 20 N
  *      times                   0 to 2^48 - 1
  *
  * Directory: rows that fill the buffer exactly, 1 to 16 of them, no two with the same topic and queue id. A row, little
@@ -58,8 +59,53 @@ enum swistopal_answer {
     SWISTOPAL_MALFORMED = 17         /* query or queue reading malformed */
 };
 
-/* Numbers in a progress array: the log position, then the entry counts of queues 0 to 15. */
-#define SWISTOPAL_PROGRESS_NUMBERS 17
+/* The sizes of a store. A call looks only at those that its answer 1 names. */
+typedef struct swistopal_sizes {
+    uint64_t segment_size;   /* S */
+    uint64_t first_position; /* B */
+    uint64_t queue_entries;  /* R */
+    uint64_t slot_count;     /* K */
+    uint64_t item_count;     /* N */
+} swistopal_sizes;
+
+/* How far dispatch has come: the next log position, and the entry counts of the directory's rows 0 to 15. */
+typedef struct swistopal_progress {
+    uint64_t position;
+    uint64_t counts[16];
+} swistopal_progress;
+
+/* The numbers of a record that its sender or the broker chose. A record keeps body_crc, queue_id, flag, system_flag and
+ * reconsume_times in 4 bytes. */
+typedef struct swistopal_fields {
+    uint64_t body_crc, queue_id, flag, queue_offset, system_flag, born_time, store_time, reconsume_times, prepared_offset;
+} swistopal_fields;
+
+/* A run of bytes. */
+typedef struct swistopal_place {
+    uint64_t at, length;
+} swistopal_place;
+
+/* Kinds of a swistopal_record. */
+enum swistopal_record_kind { SWISTOPAL_RECORD = 1, SWISTOPAL_BLANK = 2 };
+
+/* What stands at a log position. Places count from the record's first byte; an empty part is where it would stand. */
+typedef struct swistopal_record {
+    uint64_t kind;     /* SWISTOPAL_RECORD or SWISTOPAL_BLANK; 0 on every answer but 0 */
+    uint64_t total;    /* of the record or the blank */
+    uint64_t position; /* the record's own log position field */
+    swistopal_fields fields;
+    swistopal_place born_host, store_host, body, topic, properties;
+} swistopal_record;
+
+/* What a query found: so many positions stand at the start of the output, and so many items were read. */
+typedef struct swistopal_found {
+    uint64_t positions, items_read;
+} swistopal_found;
+
+/* Where the three values that matter stand in a record's properties; length 0 where there is none. */
+typedef struct swistopal_values {
+    swistopal_place tags, keys, unique_key;
+} swistopal_values;
 
 /* Least length of the text buffer of swistopal_list. */
 #define SWISTOPAL_TEXT_BYTES 65536
@@ -74,54 +120,24 @@ enum swistopal_answer {
  *   1  S, B or log_len
  *   2  *write_position outside B to B + log_len, or 1 to 7 bytes remain in its segment
  *   5  the record could not be sound at a segment's start: topic not 1 to 127 bytes, properties above 32,767 bytes,
- *      total above S - 8 or 4,194,304, store time above 2^48 - 1, queue id of 2^31 or more, system flag bit 16 or 32
+ *      total above S - 8 or 4,194,304, store time above 2^48 - 1, queue id of 2^31 or more, system flag bit 16 or 32; or
+ *      a host is not 8 bytes long, or a number that the record keeps in 4 bytes is above 2^32 - 1
  *   6  *write_position is the log's end, or the record does not fit and no segment follows
  *   7  the record does not fit into this segment: a blank of 8 bytes is written, *write_position is the next segment's
  *      start; call again
  *   0  the record's bytes stand at the old *write_position, which has grown by their number
  * On 1, 2, 5 and 6 nothing is changed. On 0 and 7 no other byte of the log is changed.
  *
- * log and write_position are written: neither may overlap the other, nor body, topic or properties.
+ * log and write_position are written: neither may overlap the other or anything else that is passed.
  */
 uint32_t swistopal_append(
-    uint8_t *log, size_t log_len, uint64_t segment_size, uint64_t first_position,
-    uint32_t body_crc, uint32_t queue_id, uint32_t flag, uint64_t queue_offset, uint32_t system_flag,
-    uint64_t born_time, uint64_t born_host, uint64_t store_time, uint64_t store_host,
-    uint32_t reconsume_times, uint64_t prepared_offset,
+    uint8_t *log, size_t log_len, const swistopal_sizes *sizes, const swistopal_fields *fields,
+    const uint8_t *born_host, size_t born_host_len, const uint8_t *store_host, size_t store_host_len,
     const uint8_t *body, size_t body_len, const uint8_t *topic, size_t topic_len,
-    const uint8_t *properties, size_t properties_len,
-    uint64_t *write_position);
-
-/* Places in the output of swistopal_read_record. */
-enum swistopal_record_field {
-    SWISTOPAL_KIND = 0,   /* SWISTOPAL_RECORD or SWISTOPAL_BLANK */
-    SWISTOPAL_LENGTH = 1, /* of the record or the blank */
-    SWISTOPAL_BODY_CRC = 2,
-    SWISTOPAL_QUEUE_ID = 3,
-    SWISTOPAL_FLAG = 4,
-    SWISTOPAL_QUEUE_OFFSET = 5,
-    SWISTOPAL_LOG_POSITION = 6,
-    SWISTOPAL_SYSTEM_FLAG = 7,
-    SWISTOPAL_BORN_TIME = 8,
-    SWISTOPAL_BORN_HOST = 9,
-    SWISTOPAL_STORE_TIME = 10,
-    SWISTOPAL_STORE_HOST = 11,
-    SWISTOPAL_RECONSUME_TIMES = 12,
-    SWISTOPAL_PREPARED_OFFSET = 13,
-    SWISTOPAL_BODY_LENGTH = 14,
-    SWISTOPAL_TOPIC_LENGTH = 15,
-    SWISTOPAL_PROPERTIES_LENGTH = 16,
-    SWISTOPAL_RECORD_FIELDS = 17
-};
-
-/* Kinds at SWISTOPAL_KIND. */
-enum swistopal_record_kind { SWISTOPAL_RECORD = 1, SWISTOPAL_BLANK = 2 };
+    const uint8_t *properties, size_t properties_len, uint64_t *write_position);
 
 /*
  * Read what stands at position: a record or a blank.
- *
- * In the log the body stands 88 bytes after position, the topic 89 + body length after it, the properties 91 + body
- * length + topic length after it.
  *
  * Answers; 1 is judged before 2, and both before the rest:
  *   1   S, B or log_len
@@ -130,29 +146,27 @@ enum swistopal_record_kind { SWISTOPAL_RECORD = 1, SWISTOPAL_BLANK = 2 };
  *   10  damaged: not a sound record and not a blank. Below readable_end this comes before 8 where fewer than 8 bytes
  *       remain in the segment, or where the first 8 bytes (total and magic) are readable and bad; any other damage shows
  *       once the whole record is readable
- *   0   out[0] is 1 for a record and 2 for a blank, out[1] its length; of a record out[2] to out[16] are its fields,
- *       as enum swistopal_record_field names them; of a blank they are 0
- * On 1, 2, 8 and 10 all of out is 0. No byte at or above readable_end decides anything.
+ *   0   *record tells the record or the blank; of a blank all but kind and total are 0
+ * On 1, 2, 8 and 10 all of *record is 0. No byte at or above readable_end decides anything.
  *
- * out is written and must not overlap log.
+ * record is written and must not overlap log or sizes.
  */
 uint32_t swistopal_read_record(
-    const uint8_t *log, size_t log_len, uint64_t segment_size, uint64_t first_position,
-    uint64_t position, uint64_t readable_end, uint64_t out[17]);
+    const uint8_t *log, size_t log_len, const swistopal_sizes *sizes,
+    uint64_t position, uint64_t readable_end, swistopal_record *record);
 
 /*
- * Dispatch records from progress[0] on to their queues and to the index, one step for each record or blank, at most
- * budget steps. progress[0] is the log position, progress[1] to progress[16] the entry counts of queues 0 to 15, each at
- * most R.
+ * Dispatch records from progress->position on to their queues and to the index, one step for each record or blank, at
+ * most budget steps. files is the index file.
  *
  * Refusals, judged in this order:
- *   1   S, B, log_len, R, K, N or index_len
+ *   1   S, B, log_len, R, K, N or files_len
  *   3   directory, or queues_len
- *   2   not B <= progress[0] <= readable_end <= B + log_len, or one of the 16 counts is above R
+ *   2   not B <= progress->position <= readable_end <= B + log_len, or one of the 16 counts is above R
  *   4   index header bad
  * Stops, judged in this order before each step:
  *   9   budget steps are done
- *   0   caught up: progress[0] is readable_end
+ *   0   caught up: progress->position is readable_end
  *   8 or 10  as in swistopal_read_record
  *   11  the queue is not listed
  *   12  the queue offset is not the queue's count
@@ -165,18 +179,17 @@ uint32_t swistopal_read_record(
  * On a refusal nothing is changed and *steps is 0. On a stop the *steps steps stand: progress, queues and index are
  * those after them, and nothing of the next record is written.
  *
- * queues, index, progress and steps are written: none of them may overlap another one, the log or the directory.
+ * queues, files, progress and steps are written: none of them may overlap another one or anything else that is passed.
  */
 uint32_t swistopal_dispatch(
-    const uint8_t *log, size_t log_len, uint64_t segment_size, uint64_t first_position, uint64_t readable_end,
-    const uint8_t *directory, size_t directory_len,
-    uint64_t queue_entries, uint8_t *queues, size_t queues_len,
-    uint64_t slot_count, uint64_t item_count, uint8_t *index, size_t index_len,
-    uint64_t budget, uint64_t progress[17], uint64_t *steps);
+    const uint8_t *log, size_t log_len, uint64_t readable_end, const swistopal_sizes *sizes,
+    const uint8_t *directory, size_t directory_len, uint8_t *queues, size_t queues_len, uint8_t *files, size_t files_len,
+    uint64_t budget, swistopal_progress *progress, uint64_t *steps);
 
 /*
  * Read log positions from a queue: of entries start to the row's count, in order, up to wanted of them (0: none).
- * tag_given 0: every entry; anything else: those with tag_code. Positions are as stored and not judged.
+ * tag_given 0: every entry; anything else: those with tag_code. Positions are as stored and not judged. Of progress only
+ * the counts are looked at.
  *
  * Answers, judged in this order:
  *   1   R
@@ -186,16 +199,16 @@ uint32_t swistopal_dispatch(
  *   0   *found positions stand at the start of out
  * On 1, 3, 2 and 17 *found is 0 and out is unchanged. On 0 out past *found is unchanged.
  *
- * out and found are written: neither may overlap the other, nor queues, directory or counts.
+ * out and found are written: neither may overlap the other or anything else that is passed.
  */
 uint32_t swistopal_read_queue(
-    const uint8_t *queues, size_t queues_len, uint64_t queue_entries,
-    const uint8_t *directory, size_t directory_len, const uint64_t counts[16],
+    const uint8_t *queues, size_t queues_len, const swistopal_sizes *sizes,
+    const uint8_t *directory, size_t directory_len, const swistopal_progress *progress,
     uint64_t row, uint64_t start, uint64_t wanted, uint32_t tag_given, uint64_t tag_code,
     uint64_t *out, size_t out_len, uint64_t *found);
 
 /*
- * Query the index: log positions of items with the hash of topic and key and a recorded time from first_time to
+ * Query one index file: log positions of items with the hash of topic and key and a recorded time from first_time to
  * last_time, newest first, up to wanted of them (0 means 32). Other keys may share the hash: read the record to be sure.
  * The recorded time is the index's first time plus whole seconds.
  *
@@ -206,16 +219,15 @@ uint32_t swistopal_read_queue(
  *       number wanted above out_len
  *   16  the chain is broken; what was found before stands
  *   0   the chain ended, an item before first_time was met, or enough was found
- * counts[0] is the number of positions at the start of out, counts[1] the number of items read, a bad one included. On
- * 1, 4 and 17 both are 0 and out is unchanged. On 0 and 16 out past counts[0] is unchanged.
+ * found->positions positions stand at the start of out; found->items_read counts the items read, a bad one included. On
+ * 1, 4 and 17 both are 0 and out is unchanged. On 0 and 16 out past the positions is unchanged.
  *
- * out and counts are written: neither may overlap the other, nor index, topic or key.
+ * out and found are written: neither may overlap the other or anything else that is passed.
  */
 uint32_t swistopal_query(
-    const uint8_t *index, size_t index_len, uint64_t slot_count, uint64_t item_count,
+    const uint8_t *index, size_t index_len, const swistopal_sizes *sizes,
     const uint8_t *topic, size_t topic_len, const uint8_t *key, size_t key_len,
-    uint64_t first_time, uint64_t last_time, uint64_t wanted,
-    uint64_t *out, size_t out_len, uint64_t counts[2]);
+    uint64_t first_time, uint64_t last_time, uint64_t wanted, uint64_t *out, size_t out_len, swistopal_found *found);
 
 /*
  * List one segment as text: a header line, a line for each record or blank, a stop line; each ends with a line feed.
@@ -231,6 +243,33 @@ uint32_t swistopal_query(
  * text and written are written: neither may overlap the other or segment.
  */
 uint32_t swistopal_list(const uint8_t *segment, size_t segment_len, uint8_t *text, size_t text_len, uint64_t *written);
+
+/*
+ * What a record makes, so that no other program has to repeat a rule. None of these has an answer: the number returned is
+ * the thing itself, 1 and 0 are yes and no.
+ */
+
+/* A tag's code, as a queue entry holds it. */
+uint64_t swistopal_tag_code(const uint8_t *tag, size_t tag_len);
+
+/* Whether a record with this system flag makes a queue entry. */
+uint32_t swistopal_makes_entry(uint64_t system_flag);
+
+/* How many index items a record with this system flag and these properties makes. */
+uint64_t swistopal_item_count(uint64_t system_flag, const uint8_t *properties, size_t properties_len);
+
+/* Whether a topic and key are among the items of a record with this system flag, topic and properties. */
+uint32_t swistopal_has_item(
+    uint64_t system_flag, const uint8_t *record_topic, size_t record_topic_len,
+    const uint8_t *properties, size_t properties_len,
+    const uint8_t *topic, size_t topic_len, const uint8_t *key, size_t key_len);
+
+/* Where the values of TAGS, KEYS and UNIQ_KEY stand in a record's properties: of each name the last pair. values is
+ * written and must not overlap properties. */
+void swistopal_find_values(const uint8_t *properties, size_t properties_len, swistopal_values *values);
+
+/* Whether an index file has its length and a sound header: 1 for K, N or index_len, 4 for the header, 0 for neither. */
+uint32_t swistopal_check_index(const uint8_t *index, size_t index_len, const swistopal_sizes *sizes);
 
 #ifdef __cplusplus
 }

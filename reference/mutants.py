@@ -3,7 +3,7 @@
 
 Each edit of mutants.txt is applied to a copy of the reference in a temporary folder, the comparison is built and run with a
 fixed seed, and must report a difference. The archive is the one that the comparison links (SWISTOPAL_LIB_DIR, or
-target/staticlib of this repository). Exit 1 if a mutant is not noticed and not explained.
+target/lib of this repository). Exit 1 if a mutant is not noticed and not explained.
 
     mutants.py [--seed N] [--count N] [NAME ..]
 """
@@ -60,7 +60,7 @@ def main():
         shutil.copytree(REFERENCE.parent / "bindings", Path(folder, "bindings"), ignore=shutil.ignore_patterns("target"))
         # Each mutant is built once and run for seconds: what counts is the time to build it.
         environment = dict(os.environ, CARGO_TARGET_DIR=str(Path(folder, "target")), CARGO_INCREMENTAL="1", CARGO_PROFILE_RELEASE_OPT_LEVEL="1")
-        environment.setdefault("SWISTOPAL_LIB_DIR", str(REFERENCE.parent / "target" / "staticlib"))
+        environment.setdefault("SWISTOPAL_LIB_DIR", str(REFERENCE.parent / "target" / "lib"))
 
         def build():
             command = ["cargo", "build", "--quiet", "--release", "--offline", "-p", "compare"]

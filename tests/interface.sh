@@ -1,9 +1,10 @@
 #!/usr/bin/env bash
-# What others link: the header alone as C and C++, the example both ways and from an installation, the Rust bindings.
+# What others link: the header alone as C and C++, the example both ways and from an installation, one version for all of
+# it, the Rust bindings.
 # Run after `make` and `rt check lister`; SWISTOPAL_LIB_DIR and LISTER name others. Prints what fails, exit 1 then.
 set -euo pipefail
 cd "$(dirname "$0")/.."
-export SWISTOPAL_LIB_DIR="${SWISTOPAL_LIB_DIR:-$PWD/target/staticlib}"
+export SWISTOPAL_LIB_DIR="${SWISTOPAL_LIB_DIR:-$PWD/target/lib}"
 export LISTER="${LISTER:-target/bin/lister}"
 export PATH="$PATH:$HOME/.cargo/bin"
 
@@ -46,11 +47,20 @@ for installed in include/swistopal.h lib/libswistopal.a lib/pkgconfig/swistopal.
     share/man/man1/swistopal.1 share/bash-completion/completions/swistopal; do
     [ -f "$folder/prefix/$installed" ] || { echo "interface: $installed is not installed" >&2; exit 1; }
 done
-read -ra flags <<< "$(PKG_CONFIG_PATH="$folder/prefix/lib/pkgconfig" pkg-config --cflags --libs swistopal)"
+export PKG_CONFIG_PATH="$folder/prefix/lib/pkgconfig"
+read -ra flags <<< "$(pkg-config --cflags --libs swistopal)"
 cp examples/store.c "$folder/store.c"
 (cd "$folder" && gcc -std=c11 "${strict[@]}" store.c "${flags[@]}" -o example-installed)
 "$folder/example-installed" | diff examples/store.stdout -
 passed "example from an installation, by pkg-config"
+
+version=$(pkg-config --modversion swistopal)
+[ "$("$folder/prefix/bin/swistopal" --version)" = "swistopal $version" ] ||
+    { echo "interface: the tool is not of version $version" >&2; exit 1; }
+for naming in bindings/rust/Cargo.toml cli/swistopal.1 CHANGELOG.md; do
+    grep -qF "$version" "$naming" || { echo "interface: $naming does not name version $version" >&2; exit 1; }
+done
+passed "one version, $version"
 
 cargo test --quiet --offline --manifest-path bindings/rust/Cargo.toml
 passed "Rust bindings"

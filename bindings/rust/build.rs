@@ -1,4 +1,4 @@
-//! Links the archive: from the directory that SWISTOPAL_LIB_DIR names, else from the repository's target/staticlib.
+//! Links the archive: from the directory that SWISTOPAL_LIB_DIR names, else from the repository's target/lib.
 
 use std::env;
 use std::path::PathBuf;
@@ -13,7 +13,7 @@ fn main() {
     let (directory, origin) = match env::var_os(VARIABLE) {
         Some(directory) => (PathBuf::from(directory), "it is from SWISTOPAL_LIB_DIR"),
         None => (
-            manifest.join("../../target/staticlib"),
+            manifest.join("../../target/lib"),
             "SWISTOPAL_LIB_DIR is not set",
         ),
     };
@@ -21,7 +21,7 @@ fn main() {
     if !archive.is_file() {
         eprintln!("no {ARCHIVE} in {} ({origin})", directory.display());
         eprintln!(
-            "`rt staticlib swistopal` at the repository's root makes target/staticlib/{ARCHIVE};"
+            "`make` at the repository's root makes target/lib/{ARCHIVE};"
         );
         eprintln!(
             "to link another one, set SWISTOPAL_LIB_DIR to its directory, as an absolute path"

@@ -34,8 +34,8 @@ const fn tables() -> [[u32; 256]; WIDTH] {
 }
 
 /// What a record of this body carries.
-pub fn of_body(body: &[u8]) -> u32 {
-    crc32(body) & 0x7fff_ffff
+pub fn of_body(body: &[u8]) -> u64 {
+    u64::from(crc32(body) & 0x7fff_ffff)
 }
 
 fn crc32(bytes: &[u8]) -> u32 {

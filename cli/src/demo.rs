@@ -9,7 +9,7 @@ use crate::{note, out};
 use std::fs;
 use std::io::Write;
 use std::os::unix::ffi::OsStrExt;
-use swistopal::{append, Appended, LogGeometry, LogPosition, Message, QueueOffset};
+use swistopal::{append, Appended, Fields, LogPosition, Message, QueueOffset, Sizes};
 
 const SEGMENT: usize = 65_536;
 const SEGMENTS: usize = 3;
@@ -17,7 +17,7 @@ const PARCELS: u64 = 200;
 /// Monday, 2 March 2026, early shift, in milliseconds.
 const SHIFT_START: u64 = 1_772_431_080_000;
 /// 10.20.0.11 with its port, as RocketMQ writes a host.
-const CONTROLLER: u64 = 0x0a14_000b_0000_2a9f;
+const CONTROLLER: [u8; 8] = [10, 20, 0, 11, 0, 0, 0x2a, 0x9f];
 
 const INDUCTION: &str = "SORTER_INDUCTION";
 const DIVERT: &str = "SORTER_DIVERT";
@@ -150,24 +150,27 @@ impl Sorter {
             self.records
         );
         let message = Message {
-            body_crc: crc::of_body(body.as_bytes()),
-            queue_id,
-            queue_offset: QueueOffset(self.next_offset(topic, queue_id)),
-            born_time: self.clock - 3,
-            born_host: CONTROLLER,
-            store_time: self.clock,
-            store_host: CONTROLLER,
+            fields: Fields {
+                body_crc: crc::of_body(body.as_bytes()),
+                queue_id: queue_id.into(),
+                queue_offset: QueueOffset(self.next_offset(topic, queue_id)),
+                born_time: self.clock - 3,
+                store_time: self.clock,
+                ..Fields::default()
+            },
+            born_host: &CONTROLLER,
+            store_host: &CONTROLLER,
             body: body.as_bytes(),
             topic: topic.as_bytes(),
             properties: properties.as_bytes(),
-            ..Message::default()
         };
-        let geometry = LogGeometry {
+        let sizes = Sizes {
             segment_size: SEGMENT as u64,
             first_position: LogPosition(0),
+            ..Sizes::default()
         };
         loop {
-            match append(&mut self.log, geometry, &message, &mut self.end) {
+            match append(&mut self.log, &sizes, &message, &mut self.end) {
                 Ok(Appended::Record) => return Ok(()),
                 Ok(Appended::Blank) => {}
                 Err(refusal) => return fault(format!("the demo does not fit: {refusal}")),

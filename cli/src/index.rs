@@ -8,7 +8,7 @@ use crate::shell;
 use crate::text::{grouped, shown_path};
 use std::os::unix::ffi::OsStrExt;
 use std::path::{Path, PathBuf};
-use swistopal::IndexGeometry;
+use swistopal::Sizes;
 
 pub const MOST_SLOTS: u64 = 5_000_000;
 pub const MOST_ITEMS: u64 = 20_000_000;
@@ -25,7 +25,8 @@ const SIZES_UNKNOWN: &str =
 pub struct Index {
     pub name: String,
     pub bytes: View,
-    pub geometry: IndexGeometry,
+    /// How many slots and items it has; the others stay 0.
+    pub sizes: Sizes,
     /// Why its sizes are only a guess.
     pub doubt: Option<String>,
 }
@@ -107,9 +108,9 @@ pub fn open(path: &Path, slots: Option<u64>) -> Result<Result<Index, Refused>, F
         Ok(lent) => lent,
         Err(refused) => return Ok(Err(refused)),
     };
-    let (geometry, sure) = match slots {
-        Some(slots) => match geometry_of(length, slots) {
-            Some(geometry) => (geometry, true),
+    let (sizes, sure) = match slots {
+        Some(slots) => match sizes_of(length, slots) {
+            Some(sizes) => (sizes, true),
             None => {
                 return usage(format!(
                     "--slots {slots}: {} has {} bytes, not 40 + 4 K + 20 N",
@@ -118,7 +119,7 @@ pub fn open(path: &Path, slots: Option<u64>) -> Result<Result<Index, Refused>, F
                 ))
             }
         },
-        None => match found_geometry(&bytes) {
+        None => match found_sizes(&bytes) {
             Some(found) => found,
             None => {
                 let sentence = format!("{}: {}", shown_path(path), SIZES_UNKNOWN);
@@ -131,14 +132,14 @@ pub fn open(path: &Path, slots: Option<u64>) -> Result<Result<Index, Refused>, F
     let doubt = (!sure).then(|| {
         format!(
             "index {name}: {SIZES_UNKNOWN}; taken as {} slots and {} items",
-            grouped(geometry.slots),
-            grouped(geometry.items)
+            grouped(sizes.slot_count),
+            grouped(sizes.item_count)
         )
     });
     Ok(Ok(Index {
         name,
         bytes,
-        geometry,
+        sizes,
         doubt,
     }))
 }
@@ -176,34 +177,35 @@ fn length_possible(length: u64) -> bool {
     (least..=MOST_BYTES).contains(&length) && (length - HEADER).is_multiple_of(SLOT)
 }
 
-fn geometry_of(length: u64, slots: u64) -> Option<IndexGeometry> {
+fn sizes_of(length: u64, slots: u64) -> Option<Sizes> {
     let items = length.checked_sub(HEADER + SLOT * slots)?;
     let fits = items.is_multiple_of(ITEM) && (2..=MOST_ITEMS).contains(&(items / ITEM));
-    fits.then_some(IndexGeometry {
-        slots,
-        items: items / ITEM,
+    fits.then_some(Sizes {
+        slot_count: slots,
+        item_count: items / ITEM,
+        ..Sizes::default()
     })
 }
 
 /// RocketMQ has four items for each slot: that is tried first. Otherwise the one number of slots for which the first and the
 /// last item stand where they have to. Without one, four items for each slot are a guess, if the length allows it.
-fn found_geometry(bytes: &[u8]) -> Option<(IndexGeometry, bool)> {
+fn found_sizes(bytes: &[u8]) -> Option<(Sizes, bool)> {
     let length = bytes.len() as u64;
-    let usual = geometry_of(length, (length - HEADER) / (SLOT + 4 * ITEM));
-    let usual = usual.filter(|usual| usual.items == 4 * usual.slots);
-    let candidates = || (1..=MOST_SLOTS).filter_map(|slots| geometry_of(length, slots));
+    let usual = sizes_of(length, (length - HEADER) / (SLOT + 4 * ITEM));
+    let usual = usual.filter(|usual| usual.item_count == 4 * usual.slot_count);
+    let candidates = || (1..=MOST_SLOTS).filter_map(|slots| sizes_of(length, slots));
     let index = Bytes(bytes);
     if index.used() <= 1 {
         // Nothing is in it, whatever its slots are.
         let any = usual.or_else(|| candidates().next());
-        return any.map(|geometry| (geometry, true));
+        return any.map(|sizes| (sizes, true));
     }
-    if let Some(usual) = usual.filter(|usual| index.fits(*usual)) {
+    if let Some(usual) = usual.filter(|usual| index.fits(usual)) {
         return Some((usual, true));
     }
-    let mut fitting = candidates().filter(|geometry| index.fits(*geometry));
+    let mut fitting = candidates().filter(|sizes| index.fits(sizes));
     match (fitting.next(), fitting.next()) {
-        (Some(geometry), None) => Some((geometry, true)),
+        (Some(sizes), None) => Some((sizes, true)),
         _ => usual.map(|usual| (usual, false)),
     }
 }
@@ -289,9 +291,9 @@ impl Bytes<'_> {
 
     /// The first item has the header's first position, the last one its last position and its slot. A hash of 0 proves
     /// nothing: zeros stand at many places.
-    fn fits(&self, geometry: IndexGeometry) -> bool {
-        let (slots, last) = (geometry.slots, self.used() - 1);
-        if last >= geometry.items || self.number::<4>(item_place(slots, last)) == Some(0) {
+    fn fits(&self, sizes: &Sizes) -> bool {
+        let (slots, last) = (sizes.slot_count, self.used() - 1);
+        if last >= sizes.item_count || self.number::<4>(item_place(slots, last)) == Some(0) {
             return false;
         }
         let slot = self.slot_of_item(slots, last);

@@ -95,7 +95,7 @@ fn start(args: &Args, log: &Log, resync: bool) -> Result<LogPosition, Failure> {
     let from = LogPosition(from);
     match log.place(from)? {
         Place::Entry { position, entry } if position < from => {
-            let next = position.0 + entry.length();
+            let next = position.0 + entry.total();
             usage(format!(
                 "--from {}: it is inside the {}, which goes from {} to {next}; start at one of these",
                 from.0,
@@ -182,13 +182,13 @@ impl Listing {
     fn entry(&mut self, position: LogPosition, entry: &Entry, behind: bool) -> Result<(), Failure> {
         self.entries += 1;
         match *entry {
-            Entry::Record { length, message } => self.record(&Read {
+            Entry::Record { total, message } => self.record(&Read {
                 position,
-                length,
+                total,
                 message,
                 behind,
             }),
-            Entry::Blank { length } => self.blank(position, length, behind),
+            Entry::Blank { total } => self.blank(position, total, behind),
         }
     }
 
@@ -200,8 +200,8 @@ impl Listing {
         if self.long {
             record::line(text, read, LONG)?;
         } else {
-            let (LogPosition(position), length) = (read.position, read.length);
-            let (queue, time) = (read.message.queue_id, read.message.store_time);
+            let (LogPosition(position), length) = (read.position, read.total);
+            let (queue, time) = (read.message.fields.queue_id, read.message.fields.store_time);
             let mark = mark(read.behind);
             writeln!(text, "{position} {length} {queue} {time}{mark}")?;
         }

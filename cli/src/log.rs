@@ -16,7 +16,7 @@ use segments::{Run, Runs, Segment, SEGMENT_SIZES};
 use std::io::{self, Read};
 use std::ops::Deref;
 use std::path::{Path, PathBuf};
-use swistopal::{read_record, Answer, Entry, LogGeometry, LogPosition};
+use swistopal::{read_record, Answer, Entry, LogPosition, Sizes};
 
 /// Segments whose size is no multiple of the page size cannot lie side by side as mappings; up to so many bytes are copied.
 const COPY_LIMIT: u64 = 1 << 28;
@@ -24,8 +24,8 @@ const COPY_LIMIT: u64 = 1 << 28;
 pub struct Log {
     /// The first stretch is the log as far as its files are without a fault; the others stand behind one.
     stretches: Vec<Stretch>,
-    /// Of the first stretch.
-    pub geometry: LogGeometry,
+    /// Segment size and first position, of the first stretch; the others stay 0.
+    pub sizes: Sizes,
     /// Of the first stretch.
     pub segments: u64,
     end_given: bool,
@@ -40,7 +40,7 @@ pub struct Log {
 /// Segments that follow each other, lent to the archive with their own first position.
 struct Stretch {
     bytes: Bytes,
-    geometry: LogGeometry,
+    sizes: Sizes,
     /// Where the files end, or what `--end` says.
     end: LogPosition,
     /// Its files, if they are mapped.
@@ -101,7 +101,7 @@ impl Log {
         let segments = runs.runs[0].segments.len() as u64;
         let stretches = lend(runs.runs, size)?;
         let log = Log {
-            geometry: stretches[0].geometry,
+            sizes: stretches[0].sizes,
             stretches,
             segments,
             end_given: false,
@@ -131,19 +131,20 @@ impl Log {
         }
         let segments = length.div_ceil(size).max(1);
         bytes.resize((segments * size) as usize, 0);
-        let geometry = LogGeometry {
+        let sizes = Sizes {
             segment_size: size,
             first_position: LogPosition(segments::first_by_record(&bytes, size)),
+            ..Sizes::default()
         };
-        let end = LogPosition(geometry.first_position.0 + length);
+        let end = LogPosition(sizes.first_position.0 + length);
         let log = Log {
             stretches: vec![Stretch {
                 bytes: Bytes::Copied(bytes),
-                geometry,
+                sizes,
                 end,
                 paths: Vec::new(),
             }],
-            geometry,
+            sizes,
             segments,
             end_given: false,
             faults: Vec::new(),
@@ -180,7 +181,7 @@ impl Log {
     }
 
     pub fn first(&self) -> LogPosition {
-        self.geometry.first_position
+        self.sizes.first_position
     }
 
     /// Where the first stretch ends: its files, or what `--end` says.
@@ -228,7 +229,7 @@ impl Log {
                     if !each(position, &entry)? {
                         return Ok(End::stopped(position, Answer::BudgetSpent));
                     }
-                    position.0 += entry.length();
+                    position.0 += entry.total();
                 }
                 Err(answer) => return Ok(self.end_at(position, answer)),
             }
@@ -262,7 +263,7 @@ impl Log {
 
 impl Stretch {
     fn first(&self) -> LogPosition {
-        self.geometry.first_position
+        self.sizes.first_position
     }
 
     fn has(&self, position: LogPosition) -> bool {
@@ -274,7 +275,7 @@ impl Stretch {
         if self.bytes.is_empty() {
             return Err(Answer::NotReadable);
         }
-        read_record(&self.bytes, self.geometry, position, self.end)
+        read_record(&self.bytes, &self.sizes, position, self.end)
     }
 
     /// The bytes from a position to the end.
@@ -372,9 +373,10 @@ fn lend(runs: Vec<Run>, size: u64) -> Result<Vec<Stretch>, Failure> {
         stretches.push(Stretch {
             bytes,
             paths,
-            geometry: LogGeometry {
+            sizes: Sizes {
                 segment_size: size,
                 first_position: LogPosition(first),
+                ..Sizes::default()
             },
             end: LogPosition(end),
         });

@@ -20,7 +20,6 @@ mod map;
 mod medium;
 mod meter;
 mod plan;
-mod properties;
 mod query;
 mod queue;
 mod queues;

@@ -9,18 +9,13 @@ use crate::text::{grouped, of_shown, shown, shown_path};
 use crate::time;
 use std::fmt::Write;
 use std::path::Path;
-use swistopal::{
-    Answer, Entry, IndexGeometry, LogGeometry, LogPosition, Message, Progress, QueueEntries,
-    QueueOffset,
-};
+use swistopal::{makes_entry, Answer, Entry, LogPosition, Message, Progress, QueueOffset, Sizes};
 
 const TITLE: &str = "swistopal rebuild 1";
 
 #[derive(Clone, PartialEq, Eq)]
 pub struct Plan {
-    pub log: LogGeometry,
-    pub entries: QueueEntries,
-    pub index: IndexGeometry,
+    pub sizes: Sizes,
     pub index_name: String,
     pub rows: Vec<Row>,
 }
@@ -33,18 +28,18 @@ pub struct Row {
 }
 
 /// The sizes that were asked for.
-pub struct Sizes {
-    entries: Option<u64>,
-    slots: Option<u64>,
-    items: Option<u64>,
+pub struct AskedSizes {
+    queue_entries: Option<u64>,
+    slot_count: Option<u64>,
+    item_count: Option<u64>,
 }
 
-impl Sizes {
-    pub fn of(args: &Args) -> Result<Sizes, Failure> {
-        Ok(Sizes {
-            entries: args.number_within("--entries", 1, MOST_ENTRIES)?,
-            slots: args.number_within("--slots", 1, MOST_SLOTS)?,
-            items: args.number_within("--items", 2, MOST_ITEMS)?,
+impl AskedSizes {
+    pub fn of(args: &Args) -> Result<AskedSizes, Failure> {
+        Ok(AskedSizes {
+            queue_entries: args.number_within("--entries", 1, MOST_ENTRIES)?,
+            slot_count: args.number_within("--slots", 1, MOST_SLOTS)?,
+            item_count: args.number_within("--items", 2, MOST_ITEMS)?,
         })
     }
 }
@@ -108,16 +103,16 @@ impl Search {
             None => return Ok(false),
         };
         let row = &mut plan.rows[number];
-        let first = message.queue_offset;
+        let first = message.fields.queue_offset;
         let starts = self.cut && counts[number] == row.start && row.start.0 == 0 && first.0 > 0;
         if starts {
             row.start = first;
-            if first > QueueOffset(plan.entries.0) {
+            if first > QueueOffset(plan.sizes.queue_entries) {
                 return fault(format!(
                     "queue {} starts with entry {}, past the {} entries of its one file",
                     row.queue.shown(),
                     first.0,
-                    plan.entries.0
+                    plan.sizes.queue_entries
                 ));
             }
         }
@@ -140,7 +135,7 @@ impl Search {
             reached = position;
             shown(position);
             match entry {
-                Entry::Record { message, .. } if makes_entry(message.system_flag) => {
+                Entry::Record { message, .. } if makes_entry(message) => {
                     self.meet(plan, position, message, &counts)?;
                     if let Some(number) = plan.row_of(message) {
                         counts[number].0 += 1;
@@ -162,7 +157,7 @@ impl Plan {
     /// read the files; they are sparse.
     pub fn first(
         log: &Log,
-        sizes: &Sizes,
+        asked: &AskedSizes,
         listed: Option<Vec<Queue>>,
     ) -> Result<(Plan, Search), Refusal> {
         let search = Search {
@@ -172,11 +167,11 @@ impl Plan {
         let start = QueueOffset(0);
         let rows = listed.unwrap_or_default().into_iter();
         let mut plan = Plan {
-            log: log.geometry,
-            entries: QueueEntries(sizes.entries.unwrap_or(MOST_ENTRIES)),
-            index: IndexGeometry {
-                slots: sizes.slots.unwrap_or(MOST_SLOTS),
-                items: sizes.items.unwrap_or(MOST_ITEMS),
+            sizes: Sizes {
+                queue_entries: asked.queue_entries.unwrap_or(MOST_ENTRIES),
+                slot_count: asked.slot_count.unwrap_or(MOST_SLOTS),
+                item_count: asked.item_count.unwrap_or(MOST_ITEMS),
+                ..log.sizes
             },
             index_name: String::new(),
             rows: rows.map(|queue| Row { queue, start }).collect(),
@@ -184,8 +179,8 @@ impl Plan {
         let mut first_time = None;
         let walked = log.walk(log.first(), |position, entry| {
             if let Entry::Record { message, .. } = entry {
-                first_time.get_or_insert(message.store_time);
-                if search.derive && makes_entry(message.system_flag) {
+                first_time.get_or_insert(message.fields.store_time);
+                if search.derive && makes_entry(message) {
                     search.meet(&mut plan, position, message, &[start; MOST_QUEUES])?;
                 }
             }
@@ -205,14 +200,11 @@ impl Plan {
 
     fn row_of(&self, message: &Message) -> Option<usize> {
         let mut rows = self.rows.iter();
-        rows.position(|row| row.queue.id == message.queue_id && row.queue.topic == message.topic)
+        rows.position(|row| row.queue.is_of(message))
     }
 
     fn add(&mut self, position: LogPosition, message: &Message) -> Result<usize, Failure> {
-        let queue = Queue {
-            topic: message.topic.to_vec(),
-            id: message.queue_id,
-        };
+        let queue = Queue::of(message);
         if self.rows.len() == MOST_QUEUES {
             return usage(format!(
                 "the record at {} belongs to a 17th queue, {}; at most {MOST_QUEUES} are rebuilt at once, \
@@ -228,21 +220,27 @@ impl Plan {
         Ok(self.rows.len() - 1)
     }
 
+    /// Whether the log has the start and the segment size that were planned for.
+    pub fn is_for(&self, log: &Log) -> bool {
+        let of_log = |sizes: &Sizes| (sizes.segment_size, sizes.first_position);
+        of_log(&self.sizes) == of_log(&log.sizes)
+    }
+
     /// Whether a rebuild under way is the one that is asked for now.
     pub fn agrees(
         &self,
         log: &Log,
-        sizes: &Sizes,
+        asked: &AskedSizes,
         listed: Option<&[Queue]>,
     ) -> Result<(), Failure> {
         let differ = |asked: Option<u64>, planned: u64| asked.is_some_and(|asked| asked != planned);
-        let what = if self.log != log.geometry {
+        let what = if !self.is_for(log) {
             "a log of another start or segment size"
-        } else if differ(sizes.entries, self.entries.0) {
+        } else if differ(asked.queue_entries, self.sizes.queue_entries) {
             "another number of --entries"
-        } else if differ(sizes.slots, self.index.slots) {
+        } else if differ(asked.slot_count, self.sizes.slot_count) {
             "another number of --slots"
-        } else if differ(sizes.items, self.index.items) {
+        } else if differ(asked.item_count, self.sizes.item_count) {
             "another number of --items"
         } else if listed.is_some_and(|listed| listed != self.queues()) {
             "other --queues"
@@ -266,7 +264,7 @@ impl Plan {
             Answer::OutOfStep => String::from(
                 "get another copy of the log, as records before it are missing or were written twice",
             ),
-            Answer::QueueFull if self.entries.0 < MOST_ENTRIES => format!(
+            Answer::QueueFull if self.sizes.queue_entries < MOST_ENTRIES => format!(
                 "begin anew with {anew} and more --entries, at most {}",
                 grouped(MOST_ENTRIES)
             ),
@@ -274,7 +272,7 @@ impl Plan {
                 "no more than {} entries of a queue are rebuilt",
                 grouped(MOST_ENTRIES)
             ),
-            Answer::IndexFull if self.index.items < MOST_ITEMS => format!(
+            Answer::IndexFull if self.sizes.item_count < MOST_ITEMS => format!(
                 "begin anew with {anew} and more --items, at most {}",
                 grouped(MOST_ITEMS)
             ),
@@ -307,11 +305,11 @@ impl Plan {
     pub fn to_text(&self) -> String {
         let mut text = format!(
             "{TITLE}\nsegment {}\nfirst {}\nentries {}\nslots {}\nitems {}\nname {}\n",
-            self.log.segment_size,
-            self.log.first_position.0,
-            self.entries.0,
-            self.index.slots,
-            self.index.items,
+            self.sizes.segment_size,
+            self.sizes.first_position.0,
+            self.sizes.queue_entries,
+            self.sizes.slot_count,
+            self.sizes.item_count,
             self.index_name
         );
         for row in &self.rows {
@@ -327,8 +325,13 @@ impl Plan {
         let mut field = |name: &str| lines.next()?.strip_prefix(name)?.strip_prefix(' ');
         field(TITLE.strip_suffix(" 1")?).filter(|version| *version == "1")?;
         let mut size = |name: &str| number(field(name)?);
-        let (segment, first) = (size("segment")?, size("first")?);
-        let (entries, slots, items) = (size("entries")?, size("slots")?, size("items")?);
+        let sizes = Sizes {
+            segment_size: size("segment")?,
+            first_position: LogPosition(size("first")?),
+            queue_entries: size("entries")?,
+            slot_count: size("slots")?,
+            item_count: size("items")?,
+        };
         let index_name = field("name")?.to_string();
         let mut rows = Vec::new();
         for line in lines {
@@ -340,19 +343,9 @@ impl Plan {
             rows.push(Row { queue, start });
         }
         Some(Plan {
-            log: LogGeometry {
-                segment_size: segment,
-                first_position: LogPosition(first),
-            },
-            entries: QueueEntries(entries),
-            index: IndexGeometry { slots, items },
+            sizes,
             index_name,
             rows,
         })
     }
-}
-
-/// Transaction type none or commit.
-pub fn makes_entry(system_flag: u32) -> bool {
-    matches!(system_flag & 12, 0 | 8)
 }

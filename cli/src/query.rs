@@ -103,7 +103,7 @@ fn by_index(args: &Args, search: &mut Search, indexes: &[Index]) -> Result<(), F
         for index in indexes.iter().rev() {
             let question = Query {
                 index: &index.bytes,
-                index_geometry: index.geometry,
+                sizes: index.sizes,
                 topic,
                 key: search.asked.key,
                 // All times: where a clock fell or the first time is 0, an item's time is not its record's.

@@ -13,8 +13,7 @@ use crate::wanted;
 use std::collections::BTreeSet;
 use std::os::unix::ffi::OsStrExt;
 use swistopal::{
-    append, dispatch, read_queue, Answer, Dispatch, Entry, IndexGeometry, LogGeometry, LogPosition,
-    Message, Progress, QueueEntries, QueueOffset, QueueReading,
+    read_queue, Answer, Entry, LogPosition, Progress, QueueOffset, QueueReading, Sizes,
 };
 
 /// The topic in which a broker keeps delayed messages.
@@ -190,12 +189,10 @@ impl Reading<'_> {
     fn show(&mut self, at: LogPosition, body: bool, results: &mut Results) -> Result<(), Failure> {
         let (position, queue) = (at.0, self.queue);
         match self.log.entry(at) {
-            Ok(Entry::Record { length, message })
-                if message.topic == queue.topic && message.queue_id == queue.id =>
-            {
+            Ok(Entry::Record { total, message }) if queue.is_of(&message) => {
                 let read = Read {
                     position: at,
-                    length,
+                    total,
                     message,
                     behind: self.log.is_behind_a_fault(at)
                         || self.damage.is_some_and(|damage| damage < at),
@@ -282,14 +279,17 @@ fn read(
     if start > file.count {
         return Ok(Vec::new());
     }
-    let mut counts = [QueueOffset(0); 16];
-    counts[0] = QueueOffset(file.count);
+    let mut progress = Progress::default();
+    progress.counts[0] = QueueOffset(file.count);
     let mut places = vec![LogPosition(0); file.count as usize];
     let reading = QueueReading {
         queues: &file.bytes,
-        queue_entries: file.entries,
+        sizes: Sizes {
+            queue_entries: file.entries,
+            ..Sizes::default()
+        },
         directory: &queues::directory(std::slice::from_ref(queue)),
-        counts: &counts,
+        progress: &progress,
         row: 0,
         start: QueueOffset(start),
         wanted: places.len() as u64,
@@ -305,48 +305,15 @@ fn read(
     }
 }
 
-/// A tag's code, from the entry that the archive makes of a record with this tag.
+/// A tag's code, if a record can have the tag.
 fn tag_code(tag: &[u8]) -> Result<u64, Failure> {
-    const SEGMENT: usize = 65_536;
     if tag.is_empty() || tag.len() > 32_000 || tag.iter().any(|byte| matches!(byte, 1 | 2)) {
         return usage(format!(
             "--tag {}: a tag has 1 to 32,000 bytes, none of them 01 or 02",
             shown(tag)
         ));
     }
-    let geometry = LogGeometry {
-        segment_size: SEGMENT as u64,
-        first_position: LogPosition(0),
-    };
-    let topic = b"T";
-    let properties = [b"TAGS\x01", tag].concat();
-    let message = Message {
-        topic,
-        properties: &properties,
-        ..Message::default()
-    };
-    let mut log = vec![0; SEGMENT];
-    let mut end = LogPosition(0);
-    let (mut entry, mut index) = ([0; 20], [0; 84]);
-    let made = append(&mut log, geometry, &message, &mut end).and_then(|_| {
-        let call = Dispatch {
-            log: &log,
-            log_geometry: geometry,
-            readable_end: end,
-            directory: &swistopal::directory(&[(topic, 0)]),
-            queue_entries: QueueEntries(1),
-            index_geometry: IndexGeometry { slots: 1, items: 2 },
-            budget: 1,
-        };
-        dispatch(&call, &mut Progress::default(), &mut entry, &mut index)
-    });
-    match made {
-        Ok(done) if done.steps == 1 => Ok(u64::from_be_bytes(
-            entry[12..].try_into().expect("eight bytes"),
-        )),
-        Ok(done) => fault(format!("the tag has no code: {}", done.stop)),
-        Err(refusal) => fault(format!("the tag has no code: {refusal}")),
-    }
+    Ok(swistopal::tag_code(tag))
 }
 
 #[cfg(test)]

@@ -10,10 +10,10 @@ use std::ffi::OsStr;
 use std::fs;
 use std::os::unix::ffi::OsStrExt;
 use std::path::{Path, PathBuf};
-use swistopal::QueueEntries;
+use swistopal::{Message, ENTRY_BYTES};
 
 /// Bytes of an entry.
-pub const ENTRY: usize = QueueEntries::ENTRY_BYTES as usize;
+pub const ENTRY: usize = ENTRY_BYTES as usize;
 pub const MOST_ENTRIES: u64 = 300_000;
 pub const MOST_QUEUES: usize = 16;
 pub const FIRST_FILE: &str = "00000000000000000000";
@@ -28,6 +28,18 @@ pub struct Queue {
 }
 
 impl Queue {
+    /// That of a record. The archive reads none with an id of more than 31 bits.
+    pub fn of(message: &Message) -> Queue {
+        Queue {
+            topic: message.topic.to_vec(),
+            id: message.fields.queue_id as u32,
+        }
+    }
+
+    pub fn is_of(&self, message: &Message) -> bool {
+        u64::from(self.id) == message.fields.queue_id && self.topic == message.topic
+    }
+
     pub fn shown(&self) -> String {
         format!("{}/{}", shown(&self.topic), self.id)
     }
@@ -54,7 +66,7 @@ pub struct QueueFile {
     /// The number of its first entry.
     pub first: u64,
     pub bytes: View,
-    pub entries: QueueEntries,
+    pub entries: u64,
     /// Entries in use: those before the first one without a size.
     pub count: u64,
 }
@@ -76,19 +88,19 @@ impl QueueFile {
 
     /// The number behind its last entry.
     pub fn end(&self) -> u64 {
-        self.first + self.entries.0
+        self.first + self.entries
     }
 
     /// The first entry that is not empty, among its entries from one on.
     fn not_empty_from(&self, entry: u64) -> Option<u64> {
-        let from = entry * QueueEntries::ENTRY_BYTES;
+        let from = entry * ENTRY_BYTES;
         let at = not_zero(&self.bytes[from as usize..])? as u64;
-        Some(self.first + (from + at) / QueueEntries::ENTRY_BYTES)
+        Some(self.first + (from + at) / ENTRY_BYTES)
     }
 
     /// What stands behind its first entry without a size, here or in the next file.
     fn hole(&self, next: Option<&QueueFile>) -> Option<String> {
-        let next = next.filter(|_| self.count < self.entries.0);
+        let next = next.filter(|_| self.count < self.entries);
         let again = self.not_empty_from(self.count);
         let again = again.or_else(|| next?.not_empty_from(0))?;
         let (place, empty) = (&self.place, self.first + self.count);
@@ -146,7 +158,7 @@ fn not_zero(bytes: &[u8]) -> Option<usize> {
 }
 
 fn size(bytes: &[u8], entry: u64) -> u32 {
-    let place = (entry * QueueEntries::ENTRY_BYTES) as usize + 8;
+    let place = (entry * ENTRY_BYTES) as usize + 8;
     let size = bytes[place..place + 4].try_into();
     u32::from_be_bytes(size.expect("four bytes"))
 }
@@ -175,8 +187,8 @@ impl QueueEntry {
 fn open_file(path: &Path, first: u64) -> Result<QueueFile, Refused> {
     let place = shown_path(path);
     let (file, length) = files::open(path)?;
-    let entries = length / QueueEntries::ENTRY_BYTES;
-    if !length.is_multiple_of(QueueEntries::ENTRY_BYTES) || entries == 0 {
+    let entries = length / ENTRY_BYTES;
+    if !length.is_multiple_of(ENTRY_BYTES) || entries == 0 {
         let sentence = format!(
             "{place}: {} bytes are no queue file; one has 20 for each of 1 to {} entries",
             grouped(length),
@@ -198,7 +210,7 @@ fn open_file(path: &Path, first: u64) -> Result<QueueFile, Refused> {
         place,
         first,
         bytes,
-        entries: QueueEntries(entries),
+        entries,
         count,
     })
 }
@@ -220,7 +232,7 @@ pub fn open_each(store: &Path, queue: &Queue) -> Result<Vec<Result<QueueFile, Re
     for path in paths {
         let name = path.file_name().and_then(OsStr::to_str);
         if let Some(first) = name.and_then(numbered_name) {
-            found.push((first / QueueEntries::ENTRY_BYTES, path));
+            found.push((first / ENTRY_BYTES, path));
         }
     }
     found.sort();

@@ -5,7 +5,7 @@ use crate::failure::{fault, usage, At, Failure, Outcome};
 use crate::journal::{Stage, State};
 use crate::log::{self, End, Log};
 use crate::meter::Meter;
-use crate::plan::{self, Plan, Sizes};
+use crate::plan::{self, AskedSizes, Plan};
 use crate::queues::Queue;
 use crate::text::{array, counted, grouped, shown_path, string, Object};
 use crate::work::{self, Claim, Work};
@@ -30,7 +30,7 @@ pub fn run(args: &Args) -> Result<Outcome, Failure> {
     }
     let budget = args.number("--budget")?.unwrap_or(u64::MAX);
     let batch = args.number_within("--batch", 1, u64::MAX)?.unwrap_or(BATCH);
-    let sizes = Sizes::of(args)?;
+    let sizes = AskedSizes::of(args)?;
     let listed = plan::listed(args)?;
     let log = Log::open(args)?;
     log::tell(&log.faults);
@@ -114,7 +114,7 @@ fn results_folder(store: &Path, args: &Args, after_crash: bool) -> Result<PathBu
 fn open(
     place: &Path,
     log: &Log,
-    sizes: &Sizes,
+    sizes: &AskedSizes,
     listed: Option<Vec<Queue>>,
     args: &Args,
 ) -> Result<(Work, Option<End>), Failure> {
@@ -317,7 +317,7 @@ impl Made {
             .number("position", self.state.progress.position.0)
             .raw("queues", &array(&queues))
             .text("index", &self.plan.index_name)
-            .number("slots", self.plan.index.slots)
+            .number("slots", self.plan.sizes.slot_count)
             .number("items", self.items)
             .raw("kept", &strings(kept.collect()))
             .number("stop", self.stop.number().into())
@@ -348,8 +348,8 @@ impl Made {
             "index     {}: {} of {}, {} slots",
             self.plan.index_name,
             counted(self.items, "item", "items"),
-            grouped(self.plan.index.items - 1),
-            grouped(self.plan.index.slots)
+            grouped(self.plan.sizes.item_count - 1),
+            grouped(self.plan.sizes.slot_count)
         )?;
         for kept in &self.kept {
             let kept = shown_path(kept);
@@ -371,9 +371,9 @@ fn advice(log: &Log, made: &Made, in_the_way: bool) -> String {
         Ok(Entry::Record { message, .. }) => format!(
             "the record at {}, entry {} of queue {}/{}",
             position.0,
-            message.queue_offset.0,
+            message.fields.queue_offset.0,
             crate::text::shown(message.topic),
-            message.queue_id
+            message.fields.queue_id
         ),
         _ => format!("position {}", position.0),
     };

@@ -2,11 +2,10 @@
 
 use crate::crc;
 use crate::log::{Cause, Log, Skipped};
-use crate::properties::Names;
 use crate::text::{array, counted, of_bytes, shown, Object};
 use crate::time;
 use std::io::{self, Write};
-use swistopal::{Answer, Entry, LogPosition, Message};
+use swistopal::{find_values, Answer, Entry, LogPosition, Message, Values};
 
 /// Text shows a body up to so many bytes; JSON has it whole.
 const BODY_SHOWN: usize = 4096;
@@ -34,17 +33,24 @@ pub fn heading(out: &mut impl Write, with: With) -> io::Result<()> {
 #[derive(Clone, Copy)]
 pub struct Read<'a> {
     pub position: LogPosition,
-    pub length: u64,
+    pub total: u64,
     pub message: Message<'a>,
     /// Whether damage stands before it.
     pub behind: bool,
 }
 
+/// The keys as they are shown: the unique key, then the words of KEYS.
+pub fn keys<'a>(values: &Values<'a>) -> impl Iterator<Item = &'a [u8]> {
+    let words = values.keys.unwrap_or_default().split(|byte| *byte == b' ');
+    let words = words.filter(|word| !word.is_empty());
+    values.unique_key.into_iter().chain(words)
+}
+
 /// One line for a record: time, position, length, queue, its number there, tags and keys; then the body, if asked for.
 pub fn line(out: &mut impl Write, read: &Read, with: With) -> io::Result<()> {
     let message = &read.message;
-    let names = Names::of(message.properties);
-    let keys: Vec<String> = names.index_keys().map(shown).collect();
+    let values = find_values(message.properties);
+    let keys: Vec<String> = keys(&values).map(shown).collect();
     let keys = if keys.is_empty() {
         String::from("-")
     } else {
@@ -59,13 +65,13 @@ pub fn line(out: &mut impl Write, read: &Read, with: With) -> io::Result<()> {
     writeln!(
         out,
         "{:24}  {:<13} {:>12} {:>7} {:>5} {:>6}  {topic}{} / {keys}{mark}",
-        time::shown(message.store_time),
-        message.store_time,
+        time::shown(message.fields.store_time),
+        message.fields.store_time,
         read.position.0,
-        read.length,
-        message.queue_id,
-        message.queue_offset.0,
-        shown(names.tags.unwrap_or(b"-")),
+        read.total,
+        message.fields.queue_id,
+        message.fields.queue_offset.0,
+        shown(values.tags.unwrap_or(b"-")),
     )?;
     if with.body {
         let start = &message.body[..message.body.len().min(BODY_SHOWN)];
@@ -83,7 +89,7 @@ pub fn line(out: &mut impl Write, read: &Read, with: With) -> io::Result<()> {
 
 /// How a body does not match the checksum that its record has.
 fn checksum_differs(message: &Message) -> Option<String> {
-    let (stored, computed) = (message.body_crc, crc::of_body(message.body));
+    let (stored, computed) = (message.fields.body_crc, crc::of_body(message.body));
     (stored != computed).then(|| {
         format!("the body does not match its checksum: the record has {stored:08x}, the body gives {computed:08x}")
     })
@@ -112,17 +118,17 @@ pub fn not_read(log: &Log, position: LogPosition, answer: Answer) -> String {
 /// The same as a JSON object.
 pub fn object(read: &Read, with_body: bool) -> String {
     let message = &read.message;
-    let names = Names::of(message.properties);
-    let keys: Vec<String> = names.index_keys().map(of_bytes).collect();
+    let values = find_values(message.properties);
+    let keys: Vec<String> = keys(&values).map(of_bytes).collect();
     let mut object = Object::new()
         .number("position", read.position.0)
-        .number("length", read.length)
+        .number("length", read.total)
         .bytes("topic", message.topic)
-        .number("queue", message.queue_id.into())
-        .number("entry", message.queue_offset.0)
-        .time("time", message.store_time)
-        .number("system_flag", message.system_flag.into());
-    object = match names.tags {
+        .number("queue", message.fields.queue_id)
+        .number("entry", message.fields.queue_offset.0)
+        .time("time", message.fields.store_time)
+        .number("system_flag", message.fields.system_flag);
+    object = match values.tags {
         Some(tags) => object.bytes("tags", tags),
         None => object.raw("tags", "null"),
     };
@@ -133,7 +139,7 @@ pub fn object(read: &Read, with_body: bool) -> String {
         let sound = checksum_differs(message).is_none();
         object = object
             .bytes("body", message.body)
-            .number("body_checksum", message.body_crc.into())
+            .number("body_checksum", message.fields.body_crc)
             .truth("body_checksum_matches", sound);
     }
     object.end()
@@ -228,4 +234,21 @@ pub fn skipped_object(skipped: &Skipped) -> String {
         Cause::LongHosts(records) => object.number("long_hosts", records),
     };
     object.text("sentence", &skipped.sentence()).end()
+}
+
+#[cfg(test)]
+mod tests {
+    use super::*;
+
+    #[test]
+    fn keys_are_shown_with_the_unique_one_first() {
+        let shown = |properties| {
+            keys(&find_values(properties))
+                .map(shown)
+                .collect::<Vec<_>>()
+        };
+        let twice = b"UNIQ_KEY\x01a\x02KEYS\x01x  y x\x02UNIQ_KEY\x01u\x02KEYS\x01\x02";
+        assert_eq!(shown(twice), ["u", "x", "y", "x"]);
+        assert!(shown(b"TAGS\x01t\x02KEYS\x01  ").is_empty());
+    }
 }

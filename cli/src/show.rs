@@ -4,14 +4,13 @@ use crate::args::Args;
 use crate::crc;
 use crate::failure::{fault, usage, Failure, Outcome};
 use crate::log::{self, Cause, Log, Place};
-use crate::properties::{pieces, Names, Piece};
 use crate::record::{self, Read};
 use crate::text::{array, counted, grouped, of_bytes, shown, Object};
 use crate::time;
 use crate::{note, out};
 use std::io::{self, Write};
 use std::net::Ipv4Addr;
-use swistopal::{Entry, LogPosition, Message};
+use swistopal::{find_values, Entry, LogPosition, Message};
 
 /// Bytes of a body on one line of hexadecimal digits.
 const HEX_LINE: usize = 16;
@@ -49,7 +48,7 @@ pub fn run(args: &Args) -> Result<Outcome, Failure> {
 }
 
 fn inside(read: &Read) -> String {
-    let (first, end) = (read.position.0, read.position.0 + read.length);
+    let (first, end) = (read.position.0, read.position.0 + read.total);
     format!("is inside this record, which goes from {first} to {end}")
 }
 
@@ -71,12 +70,12 @@ fn find(log: &Log, asked: LogPosition) -> Result<Read<'_>, Failure> {
     match log.place(asked)? {
         Place::Entry {
             position,
-            entry: Entry::Record { length, message },
+            entry: Entry::Record { total, message },
         } => {
             let damage = log.damage_before(position)?;
             Ok(Read {
                 position,
-                length,
+                total,
                 message,
                 behind: log.is_behind_a_fault(position) || damage.is_some(),
             })
@@ -85,7 +84,7 @@ fn find(log: &Log, asked: LogPosition) -> Result<Read<'_>, Failure> {
             "position {}: no record stands there but a blank, which goes from {} to its segment's end at {}",
             asked.0,
             position.0,
-            position.0 + entry.length()
+            position.0 + entry.total()
         )),
         Place::Skipped(skipped) if matches!(skipped.why, Cause::LongHosts(_)) => usage(format!(
             "position {}: it cannot be shown; {}",
@@ -105,12 +104,17 @@ fn find(log: &Log, asked: LogPosition) -> Result<Read<'_>, Failure> {
 }
 
 /// Four bytes of address and four of port, as RocketMQ writes a host.
-fn host(host: u64) -> String {
-    let (address, port) = ((host >> 32) as u32, host as u32);
-    format!("{}:{port}", Ipv4Addr::from(address))
+fn host(host: &[u8]) -> String {
+    match *host {
+        [a, b, c, d, e, f, g, h] => {
+            let (address, port) = (Ipv4Addr::new(a, b, c, d), u32::from_be_bytes([e, f, g, h]));
+            format!("{address}:{port}")
+        }
+        _ => shown(host),
+    }
 }
 
-fn transaction(system_flag: u32) -> &'static str {
+fn transaction(system_flag: u64) -> &'static str {
     match system_flag & 12 {
         4 => "prepared",
         8 => "committed",
@@ -121,23 +125,23 @@ fn transaction(system_flag: u32) -> &'static str {
 
 fn lines(out: &mut impl Write, read: &Read) -> io::Result<()> {
     let message = &read.message;
-    let names = Names::of(message.properties);
+    let values = find_values(message.properties);
     let mut field = |name: &str, value: String| writeln!(out, "{name:13} {value}");
-    let end = read.position.0 + read.length;
+    let end = read.position.0 + read.total;
     field(
         "position",
         format!(
             "{} to {end}, {} bytes",
             read.position.0,
-            grouped(read.length)
+            grouped(read.total)
         ),
     )?;
     field("topic", shown(message.topic))?;
-    field("queue", message.queue_id.to_string())?;
-    field("entry", message.queue_offset.0.to_string())?;
+    field("queue", message.fields.queue_id.to_string())?;
+    field("entry", message.fields.queue_offset.0.to_string())?;
     for (name, time, at) in [
-        ("stored", message.store_time, message.store_host),
-        ("born", message.born_time, message.born_host),
+        ("stored", message.fields.store_time, message.store_host),
+        ("born", message.fields.born_time, message.born_host),
     ] {
         let signed = time as i64;
         let when = match signed < 0 {
@@ -146,24 +150,30 @@ fn lines(out: &mut impl Write, read: &Read) -> io::Result<()> {
         };
         field(name, format!("{when} ({signed}) at {}", host(at)))?;
     }
-    let compressed = if message.system_flag & 1 != 0 {
+    let compressed = if message.fields.system_flag & 1 != 0 {
         ", the body is compressed"
     } else {
         ""
     };
-    let kind = transaction(message.system_flag);
+    let kind = transaction(message.fields.system_flag);
     field(
         "system flag",
-        format!("{}: transaction {kind}{compressed}", message.system_flag),
+        format!(
+            "{}: transaction {kind}{compressed}",
+            message.fields.system_flag
+        ),
     )?;
-    field("flag", (message.flag as i32).to_string())?;
+    field("flag", (message.fields.flag as i32).to_string())?;
     field(
         "reconsumed",
-        format!("{} times", message.reconsume_times as i32),
+        format!("{} times", message.fields.reconsume_times as i32),
     )?;
-    field("prepared at", (message.prepared_offset as i64).to_string())?;
-    field("tags", names.tags.map_or(String::from("-"), shown))?;
-    let keys: Vec<String> = names.index_keys().map(shown).collect();
+    field(
+        "prepared at",
+        (message.fields.prepared_offset as i64).to_string(),
+    )?;
+    field("tags", values.tags.map_or(String::from("-"), shown))?;
+    let keys: Vec<String> = record::keys(&values).map(shown).collect();
     field(
         "keys",
         if keys.is_empty() {
@@ -178,11 +188,32 @@ fn lines(out: &mut impl Write, read: &Read) -> io::Result<()> {
 }
 
 fn checksum(message: &Message) -> String {
-    let (stored, computed) = (message.body_crc, crc::of_body(message.body));
+    let (stored, computed) = (message.fields.body_crc, crc::of_body(message.body));
     match stored == computed {
         true => format!("{stored:08x}, as the body gives it"),
         false => format!("{stored:08x}, but the body gives {computed:08x}: it is damaged"),
     }
+}
+
+/// A part of the properties as it is shown: a name with its value, or what is neither.
+#[derive(Clone, Copy, Debug, PartialEq, Eq)]
+enum Piece<'a> {
+    Pair(&'a [u8], &'a [u8]),
+    Other(&'a [u8]),
+}
+
+/// All pieces that are not empty, in order.
+fn pieces(properties: &[u8]) -> impl Iterator<Item = Piece<'_>> {
+    let pieces = properties.split(|byte| *byte == 2);
+    pieces.filter(|piece| !piece.is_empty()).map(|piece| {
+        let mut sides = piece.split(|byte| *byte == 1);
+        match (sides.next(), sides.next(), sides.next()) {
+            (Some(name), Some(value), None) if !name.is_empty() && !value.is_empty() => {
+                Piece::Pair(name, value)
+            }
+            _ => Piece::Other(piece),
+        }
+    })
 }
 
 /// A line for each pair. Of several with one name the last counts.
@@ -245,9 +276,9 @@ fn hex(out: &mut impl Write, bytes: &[u8]) -> io::Result<()> {
 
 fn object(read: &Read) -> String {
     let message = &read.message;
-    let names = Names::of(message.properties);
+    let values = find_values(message.properties);
     let optional = |bytes: Option<&[u8]>| bytes.map_or(String::from("null"), of_bytes);
-    let keys: Vec<String> = names.index_keys().map(of_bytes).collect();
+    let keys: Vec<String> = record::keys(&values).map(of_bytes).collect();
     let properties: Vec<String> = pieces(message.properties)
         .map(|piece| match piece {
             Piece::Pair(name, value) => Object::new().bytes("name", name).bytes("value", value),
@@ -257,33 +288,59 @@ fn object(read: &Read) -> String {
         .collect();
     Object::new()
         .number("position", read.position.0)
-        .number("length", read.length)
+        .number("length", read.total)
         .bytes("topic", message.topic)
-        .number("queue", message.queue_id.into())
-        .number("entry", message.queue_offset.0)
-        .time("time", message.store_time)
+        .number("queue", message.fields.queue_id)
+        .number("entry", message.fields.queue_offset.0)
+        .time("time", message.fields.store_time)
         .text("store_host", &host(message.store_host))
-        .raw("born_time", &(message.born_time as i64).to_string())
+        .raw("born_time", &(message.fields.born_time as i64).to_string())
         .text("born_host", &host(message.born_host))
-        .number("system_flag", message.system_flag.into())
-        .text("transaction", transaction(message.system_flag))
-        .raw("flag", &(message.flag as i32).to_string())
+        .number("system_flag", message.fields.system_flag)
+        .text("transaction", transaction(message.fields.system_flag))
+        .raw("flag", &(message.fields.flag as i32).to_string())
         .raw(
             "reconsume_times",
-            &(message.reconsume_times as i32).to_string(),
+            &(message.fields.reconsume_times as i32).to_string(),
         )
         .raw(
             "prepared_offset",
-            &(message.prepared_offset as i64).to_string(),
+            &(message.fields.prepared_offset as i64).to_string(),
         )
-        .raw("tags", &optional(names.tags))
+        .raw("tags", &optional(values.tags))
         .raw("keys", &array(&keys))
-        .raw("unique_key", &optional(names.unique_key))
+        .raw("unique_key", &optional(values.unique_key))
         .raw("properties", &array(&properties))
         .truth("behind_damage", read.behind)
         .number("body_length", message.body.len() as u64)
-        .number("body_checksum", message.body_crc.into())
-        .number("body_checksum_computed", crc::of_body(message.body).into())
+        .number("body_checksum", message.fields.body_crc)
+        .number("body_checksum_computed", crc::of_body(message.body))
         .bytes("body", message.body)
         .end()
+}
+
+#[cfg(test)]
+mod tests {
+    use super::*;
+
+    #[test]
+    fn hosts_are_shown_as_address_and_port() {
+        assert_eq!(host(&[10, 20, 0, 11, 0, 0, 0x2a, 0x9f]), "10.20.0.11:10911");
+        assert_eq!(host(&[255; 8]), "255.255.255.255:4294967295");
+    }
+
+    #[test]
+    fn each_piece_is_shown_once() {
+        let pieces: Vec<Piece> =
+            pieces(b"A\x01b\x02\x02A\x01c\x02B\x01\x02\x01d\x02C\x01e\x01\x02f").collect();
+        let expected = [
+            Piece::Pair(b"A", b"b"),
+            Piece::Pair(b"A", b"c"),
+            Piece::Other(b"B\x01"),
+            Piece::Other(b"\x01d"),
+            Piece::Other(b"C\x01e\x01"),
+            Piece::Other(b"f"),
+        ];
+        assert_eq!(pieces, expected);
+    }
 }

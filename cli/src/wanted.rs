@@ -86,7 +86,7 @@ impl<'a> Wanted<'a> {
         self.seen.add(message);
         let (first, last) = self.times;
         self.topic.is_none_or(|topic| topic == message.topic)
-            && (first..=last).contains(&message.store_time)
+            && (first..=last).contains(&message.fields.store_time)
     }
 
     /// Where nothing was taken: what there is instead.
@@ -103,7 +103,7 @@ impl Seen {
         if !self.topics.contains(message.topic) {
             self.topics.insert(message.topic.to_vec());
         }
-        let time = message.store_time;
+        let time = message.fields.store_time;
         let (low, high) = self.times.unwrap_or((time, time));
         self.times = Some((low.min(time), high.max(time)));
     }

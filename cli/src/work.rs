@@ -22,7 +22,7 @@ use std::fs::{self, File, OpenOptions};
 use std::os::unix::fs::FileExt;
 use std::path::{Path, PathBuf};
 use swistopal::{
-    dispatch, Answer, Dispatch, Dispatched, Entry, LogPosition, Progress, QueueEntries,
+    dispatch, Answer, Dispatch, Dispatched, Entry, LogPosition, Progress, ENTRY_BYTES,
 };
 use targets::{entry_bytes, filled, index_changes, index_length, queues_length, Target, Targets};
 
@@ -58,7 +58,7 @@ impl Claim {
         let state = State {
             stage: Stage::Building,
             steps: 0,
-            progress: Progress::from_position(plan.log.first_position),
+            progress: Progress::from_position(plan.sizes.first_position),
         };
         Work {
             directory: directory(&plan.queues()),
@@ -196,7 +196,7 @@ impl Work {
             let left = PIECE.min(budget - steps);
             let done = self.dispatch(log, readable_end, left, &mut targets, &mut after.progress)?;
             steps += done.steps;
-            let brought = targets.bring_items(self.plan.index.slots);
+            let brought = targets.bring_items(self.plan.sizes.slot_count);
             brought.at("write", &self.parts.index)?;
             shown(after.progress.position, steps);
             if self.takes_queue(log, done.stop, &mut targets, &mut after.progress)? {
@@ -224,16 +224,14 @@ impl Work {
     ) -> Result<Dispatched, Failure> {
         let call = Dispatch {
             log: log.bytes(),
-            log_geometry: self.plan.log,
             readable_end,
+            sizes: self.plan.sizes,
             directory: &self.directory,
-            queue_entries: self.plan.entries,
-            index_geometry: self.plan.index,
             budget,
         };
-        let length = self.plan.entries.buffer_length(self.plan.rows.len() as u64);
+        let length = self.plan.sizes.queues_len(self.plan.rows.len() as u64);
         let queues = &mut targets.queues.bytes[..length.unwrap_or(0)];
-        let done = dispatch(&call, progress, queues, &mut targets.index.bytes);
+        let done = dispatch(&call, queues, &mut targets.index.bytes, progress);
         done.or_else(|refusal| self.refused(refusal))
     }
 
@@ -294,13 +292,12 @@ impl Work {
             return Ok(());
         };
         let mut targets = self.take_targets()?;
-        let brought =
-            targets.bring_entries(self.plan.entries, &self.state.progress, &after.progress);
+        let brought = targets.bring_entries(&self.plan, &self.state.progress, &after.progress);
         brought.at("write", &self.parts.queues)?;
         // What the journal that goes now has promised is brought to the disk with it.
         targets.sync().at("write", &self.claim.folder)?;
         let index = &targets.index.bytes;
-        let changes = index_changes(&Bytes(index), self.plan.index.slots, used_before);
+        let changes = index_changes(&Bytes(index), self.plan.sizes.slot_count, used_before);
         let write = || {
             let mut journal = Writer::create(&self.parts.journal_part, &after)?;
             for change in &changes {
@@ -332,7 +329,7 @@ impl Work {
         if let Some(Batch { after, used_before }) = self.pending.take() {
             let targets = self.take_targets()?;
             let index = Bytes(&targets.index.bytes);
-            let changes = index_changes(&index, self.plan.index.slots, used_before);
+            let changes = index_changes(&index, self.plan.sizes.slot_count, used_before);
             targets.apply(&changes).at("write", &self.parts.index)?;
             self.state = after;
             self.targets = Some(targets);
@@ -345,7 +342,7 @@ impl Work {
         let (parts, plan) = (&self.parts, &self.plan);
         fs::create_dir_all(&parts.index_folder).at("create", &parts.index_folder)?;
         let queues = zeros(&parts.queues, queues_length(plan)?)?;
-        let region = plan.entries.0 * QueueEntries::ENTRY_BYTES;
+        let region = plan.sizes.queue_entries * ENTRY_BYTES;
         for (number, row) in plan.rows.iter().enumerate() {
             let written = queues.write_all_at(&filled(row.start), number as u64 * region);
             written.at("write", &parts.queues)?;
@@ -375,7 +372,7 @@ impl Work {
             index: Target {
                 file: index_file,
                 bytes: index,
-                from: item_place(self.plan.index.slots, 0),
+                from: item_place(self.plan.sizes.slot_count, 0),
             },
             brought,
         })
@@ -384,7 +381,7 @@ impl Work {
     fn load_queues(&self, file: &File) -> Result<Draft, Failure> {
         let path = &self.parts.queues;
         let mut queues = Draft::for_file(file, queues_length(&self.plan)?).at("map", path)?;
-        let region = self.plan.entries.0 * QueueEntries::ENTRY_BYTES;
+        let region = self.plan.sizes.queue_entries * ENTRY_BYTES;
         let counts = self.kept_state().progress.counts;
         for (number, count) in counts.iter().enumerate() {
             let from = number as u64 * region;
@@ -398,10 +395,10 @@ impl Work {
         let path = &self.parts.index;
         let mut index = Draft::for_file(file, index_length(&self.plan)?).at("map", path)?;
         if self.state.steps > 0 {
-            let slots = self.plan.index.slots;
+            let slots = self.plan.sizes.slot_count;
             let table = &mut index[..slot_place(slots) as usize];
             file.read_exact_at(table, 0).at("read", path)?;
-            let used = Bytes(&index).used().min(self.plan.index.items);
+            let used = Bytes(&index).used().min(self.plan.sizes.item_count);
             let items = item_place(slots, 1)..item_place(slots, used);
             index.load(file, items).at("read", path)?;
         }
@@ -451,7 +448,7 @@ impl Work {
         let path = &self.parts.index;
         let (_, file) = self.open_targets()?;
         let used = self.items()? + 1;
-        let mut from = item_place(self.plan.index.slots, used);
+        let mut from = item_place(self.plan.sizes.slot_count, used);
         let end = index_length(&self.plan)? as u64;
         let mut block = vec![0; 1 << 20];
         while from < end {

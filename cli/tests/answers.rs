@@ -259,6 +259,32 @@ fn a_query_needs_no_topic_and_knows_unique_keys() {
 }
 
 #[test]
+fn a_scan_finds_what_an_index_has() {
+    let folder = Folder::new("transactions");
+    let mut broker = Broker::new(&folder.join("store"));
+    let puts = [0, 4, 8, 12].map(|system_flag| {
+        broker.put(Message {
+            keys: "k",
+            system_flag,
+            ..Message::default()
+        })
+    });
+    let store = broker.finish();
+    // A record that was rolled back has no item.
+    let [none, prepared, committed, _] = puts.map(|put| put.position);
+    for more in [
+        &[][..],
+        &["--scan"],
+        &["--topic", "T"],
+        &["--topic", "T", "--scan"],
+    ] {
+        let options = [&["--key", "k", "--json"], more].concat();
+        let json = query(&store, &options).is(0, "").json();
+        assert_eq!(positions(&json), [committed, prepared, none]);
+    }
+}
+
+#[test]
 fn json_lines_are_what_json_has() {
     let folder = Folder::new("lines");
     let store = built(&folder, "store");

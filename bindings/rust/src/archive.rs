@@ -1,22 +1,89 @@
-//! The C interface as include/swistopal.h declares it.
+//! The C interface as include/swistopal.h declares it: its structs, with the header's names, and its functions.
+
+/// The sizes of a store.
+#[derive(Clone, Copy, Debug, Default, PartialEq, Eq)]
+#[repr(C)]
+pub struct Sizes {
+    pub segment_size: u64,
+    pub first_position: u64,
+    pub queue_entries: u64,
+    pub slot_count: u64,
+    pub item_count: u64,
+}
+
+/// How far dispatch has come.
+#[derive(Clone, Copy, Debug, Default, PartialEq, Eq)]
+#[repr(C)]
+pub struct Progress {
+    pub position: u64,
+    pub counts: [u64; 16],
+}
+
+/// The numbers of a record that its sender or the broker chose.
+#[derive(Clone, Copy, Debug, Default, PartialEq, Eq)]
+#[repr(C)]
+pub struct Fields {
+    pub body_crc: u64,
+    pub queue_id: u64,
+    pub flag: u64,
+    pub queue_offset: u64,
+    pub system_flag: u64,
+    pub born_time: u64,
+    pub store_time: u64,
+    pub reconsume_times: u64,
+    pub prepared_offset: u64,
+}
+
+/// A run of bytes.
+#[derive(Clone, Copy, Debug, Default, PartialEq, Eq)]
+#[repr(C)]
+pub struct Place {
+    pub at: u64,
+    pub length: u64,
+}
+
+/// What stands at a log position.
+#[derive(Clone, Copy, Debug, Default, PartialEq, Eq)]
+#[repr(C)]
+pub struct Record {
+    pub kind: u64,
+    pub total: u64,
+    pub position: u64,
+    pub fields: Fields,
+    pub born_host: Place,
+    pub store_host: Place,
+    pub body: Place,
+    pub topic: Place,
+    pub properties: Place,
+}
+
+/// What a query found.
+#[derive(Clone, Copy, Debug, Default, PartialEq, Eq)]
+#[repr(C)]
+pub struct Found {
+    pub positions: u64,
+    pub items_read: u64,
+}
+
+/// Where the three values that matter stand in a record's properties.
+#[derive(Clone, Copy, Debug, Default, PartialEq, Eq)]
+#[repr(C)]
+pub struct Values {
+    pub tags: Place,
+    pub keys: Place,
+    pub unique_key: Place,
+}
 
 extern "C" {
     pub fn swistopal_append(
         log: *mut u8,
         log_len: usize,
-        segment_size: u64,
-        first_position: u64,
-        body_crc: u32,
-        queue_id: u32,
-        flag: u32,
-        queue_offset: u64,
-        system_flag: u32,
-        born_time: u64,
-        born_host: u64,
-        store_time: u64,
-        store_host: u64,
-        reconsume_times: u32,
-        prepared_offset: u64,
+        sizes: *const Sizes,
+        fields: *const Fields,
+        born_host: *const u8,
+        born_host_len: usize,
+        store_host: *const u8,
+        store_host_len: usize,
         body: *const u8,
         body_len: usize,
         topic: *const u8,
@@ -29,40 +96,35 @@ extern "C" {
     pub fn swistopal_read_record(
         log: *const u8,
         log_len: usize,
-        segment_size: u64,
-        first_position: u64,
+        sizes: *const Sizes,
         position: u64,
         readable_end: u64,
-        out: *mut u64,
+        record: *mut Record,
     ) -> u32;
 
     pub fn swistopal_dispatch(
         log: *const u8,
         log_len: usize,
-        segment_size: u64,
-        first_position: u64,
         readable_end: u64,
+        sizes: *const Sizes,
         directory: *const u8,
         directory_len: usize,
-        queue_entries: u64,
         queues: *mut u8,
         queues_len: usize,
-        slot_count: u64,
-        item_count: u64,
-        index: *mut u8,
-        index_len: usize,
+        files: *mut u8,
+        files_len: usize,
         budget: u64,
-        progress: *mut u64,
+        progress: *mut Progress,
         steps: *mut u64,
     ) -> u32;
 
     pub fn swistopal_read_queue(
         queues: *const u8,
         queues_len: usize,
-        queue_entries: u64,
+        sizes: *const Sizes,
         directory: *const u8,
         directory_len: usize,
-        counts: *const u64,
+        progress: *const Progress,
         row: u64,
         start: u64,
         wanted: u64,
@@ -76,8 +138,7 @@ extern "C" {
     pub fn swistopal_query(
         index: *const u8,
         index_len: usize,
-        slot_count: u64,
-        item_count: u64,
+        sizes: *const Sizes,
         topic: *const u8,
         topic_len: usize,
         key: *const u8,
@@ -87,7 +148,7 @@ extern "C" {
         wanted: u64,
         out: *mut u64,
         out_len: usize,
-        counts: *mut u64,
+        found: *mut Found,
     ) -> u32;
 
     pub fn swistopal_list(
@@ -97,4 +158,30 @@ extern "C" {
         text_len: usize,
         written: *mut u64,
     ) -> u32;
+
+    pub fn swistopal_tag_code(tag: *const u8, tag_len: usize) -> u64;
+
+    pub fn swistopal_makes_entry(system_flag: u64) -> u32;
+
+    pub fn swistopal_item_count(
+        system_flag: u64,
+        properties: *const u8,
+        properties_len: usize,
+    ) -> u64;
+
+    pub fn swistopal_has_item(
+        system_flag: u64,
+        record_topic: *const u8,
+        record_topic_len: usize,
+        properties: *const u8,
+        properties_len: usize,
+        topic: *const u8,
+        topic_len: usize,
+        key: *const u8,
+        key_len: usize,
+    ) -> u32;
+
+    pub fn swistopal_find_values(properties: *const u8, properties_len: usize, values: *mut Values);
+
+    pub fn swistopal_check_index(index: *const u8, index_len: usize, sizes: *const Sizes) -> u32;
 }

@@ -4,83 +4,70 @@
 //! bytes and brings an [`Answer`]. A refusal, which changes nothing, is an `Err`; a stop that keeps its work is an `Ok`
 //! with the answer in it.
 //!
+//! Six small functions tell what a record makes and whether an index is sound: [`tag_code`], [`makes_entry`],
+//! [`item_count`], [`has_item`], [`find_values`], [`check_index`].
+//!
 //! ```
 //! use swistopal::*;
 //!
 //! # fn main() -> Result<(), Answer> {
-//! let log_geometry = LogGeometry { segment_size: 1024, first_position: LogPosition(0) };
+//! let sizes = Sizes {
+//!     segment_size: 1024,
+//!     first_position: LogPosition(0),
+//!     queue_entries: 8,
+//!     slot_count: 4,
+//!     item_count: 16,
+//! };
 //! let mut log = vec![0; 2048];
 //! let mut write_position = LogPosition(0);
 //! let message = Message {
-//!     store_time: 10_000,
+//!     fields: Fields { store_time: 10_000, ..Fields::default() },
 //!     topic: b"SORTER",
 //!     properties: b"TAGS\x01divert\x02UNIQ_KEY\x01parcel-17\x02",
 //!     ..Message::default()
 //! };
-//! assert_eq!(append(&mut log, log_geometry, &message, &mut write_position)?, Appended::Record);
+//! assert_eq!(append(&mut log, &sizes, &message, &mut write_position)?, Appended::Record);
 //!
 //! let directory = directory(&[(b"SORTER", 0)]);
-//! let queue_entries = QueueEntries(8);
-//! let index_geometry = IndexGeometry { slots: 4, items: 16 };
-//! let mut queues = vec![0; queue_entries.buffer_length(1).unwrap()];
-//! let mut index = vec![0; index_geometry.buffer_length().unwrap()];
+//! let mut queues = vec![0; sizes.queues_len(1).unwrap()];
+//! let mut index = vec![0; sizes.index_len().unwrap()];
 //! let mut progress = Progress::from_position(LogPosition(0));
 //! let call = Dispatch {
 //!     log: &log,
-//!     log_geometry,
 //!     readable_end: write_position,
+//!     sizes,
 //!     directory: &directory,
-//!     queue_entries,
-//!     index_geometry,
 //!     budget: u64::MAX,
 //! };
-//! let dispatched = dispatch(&call, &mut progress, &mut queues, &mut index)?;
+//! let dispatched = dispatch(&call, &mut queues, &mut index, &mut progress)?;
 //! assert_eq!((dispatched.stop, dispatched.steps), (Answer::Done, 1));
 //!
 //! let mut out = [LogPosition(0); 32];
 //! let question = Query {
 //!     index: &index,
-//!     index_geometry,
+//!     sizes,
 //!     topic: b"SORTER",
 //!     key: b"parcel-17",
 //!     first_time: 0,
 //!     last_time: 20_000,
 //!     wanted: 0,
 //! };
-//! let queried = query(&question, &mut out)?;
-//! assert_eq!(queried.found, [LogPosition(0)]);
+//! let found = query(&question, &mut out)?;
+//! assert_eq!(found.positions, [LogPosition(0)]);
 //! # Ok(())
 //! # }
 //! ```
 
 mod answer;
 mod archive;
-mod geometry;
+mod makes;
+mod message;
+mod sizes;
 
 pub use answer::Answer;
-pub use geometry::{
-    directory, IndexGeometry, LogGeometry, LogPosition, Progress, QueueEntries, QueueOffset,
-};
-
-/// What a record carries. Java's signed numbers are given as their bit patterns.
-#[derive(Clone, Copy, Debug, Default, PartialEq, Eq)]
-pub struct Message<'a> {
-    /// Carried, never computed or judged.
-    pub body_crc: u32,
-    pub queue_id: u32,
-    pub flag: u32,
-    pub queue_offset: QueueOffset,
-    pub system_flag: u32,
-    pub born_time: u64,
-    pub born_host: u64,
-    pub store_time: u64,
-    pub store_host: u64,
-    pub reconsume_times: u32,
-    pub prepared_offset: u64,
-    pub body: &'a [u8],
-    pub topic: &'a [u8],
-    pub properties: &'a [u8],
-}
+pub use makes::{find_values, has_item, item_count, makes_entry, tag_code, Values};
+pub use message::{Entry, Fields, Message};
+pub use sizes::{directory, LogPosition, Progress, QueueOffset, Sizes, ENTRY_BYTES};
 
 /// What an append wrote.
 #[derive(Clone, Copy, Debug, PartialEq, Eq)]
@@ -91,25 +78,28 @@ pub enum Appended {
     Blank,
 }
 
-/// Appends one record at the write position, which moves past what was written.
+/// Appends one record at the write position, which moves past what was written. Of the sizes it looks at the segment size
+/// and the first position.
 ///
 /// ```
 /// use swistopal::*;
 ///
-/// let geometry = LogGeometry { segment_size: 1024, first_position: LogPosition(0) };
+/// let sizes = Sizes { segment_size: 1024, ..Sizes::default() };
 /// let mut log = vec![0; 2048];
 /// let mut position = LogPosition(924);
 /// let message = Message { topic: b"TT", ..Message::default() };
-/// assert_eq!(append(&mut log, geometry, &message, &mut position), Ok(Appended::Blank));
+/// assert_eq!(append(&mut log, &sizes, &message, &mut position), Ok(Appended::Blank));
 /// assert_eq!(position, LogPosition(1024));
-/// assert_eq!(append(&mut log, geometry, &message, &mut position), Ok(Appended::Record));
+/// assert_eq!(append(&mut log, &sizes, &message, &mut position), Ok(Appended::Record));
 /// assert_eq!(position, LogPosition(1024 + 93));
-/// let message = Message { topic: b"", ..message };
-/// assert_eq!(append(&mut log, geometry, &message, &mut position), Err(Answer::BadRequest));
+/// let mut refused = |message| append(&mut log, &sizes, &message, &mut position) == Err(Answer::BadRequest);
+/// assert!(refused(Message { topic: b"", ..message }));
+/// assert!(refused(Message { store_host: &[0; 20], ..message }));
+/// assert!(refused(Message { fields: Fields { flag: 1 << 32, ..Fields::default() }, ..message }));
 /// ```
 pub fn append(
     log: &mut [u8],
-    geometry: LogGeometry,
+    sizes: &Sizes,
     message: &Message,
     write_position: &mut LogPosition,
 ) -> Result<Appended, Answer> {
@@ -118,19 +108,12 @@ pub fn append(
         archive::swistopal_append(
             log.as_mut_ptr(),
             log.len(),
-            geometry.segment_size,
-            geometry.first_position.0,
-            message.body_crc,
-            message.queue_id,
-            message.flag,
-            message.queue_offset.0,
-            message.system_flag,
-            message.born_time,
-            message.born_host,
-            message.store_time,
-            message.store_host,
-            message.reconsume_times,
-            message.prepared_offset,
+            &sizes.lent(),
+            &message.fields.lent(),
+            message.born_host.as_ptr(),
+            message.born_host.len(),
+            message.store_host.as_ptr(),
+            message.store_host.len(),
             message.body.as_ptr(),
             message.body.len(),
             message.topic.as_ptr(),
@@ -147,99 +130,73 @@ pub fn append(
     }
 }
 
-/// What stands at a log position.
-#[derive(Clone, Copy, Debug, PartialEq, Eq)]
-pub enum Entry<'a> {
-    Record { length: u64, message: Message<'a> },
-    Blank { length: u64 },
-}
+/// The kind of a blank, SWISTOPAL_BLANK.
+const BLANK: u64 = 2;
 
-impl Entry<'_> {
-    /// Bytes up to the next entry.
-    pub fn length(&self) -> u64 {
-        match self {
-            Entry::Record { length, .. } | Entry::Blank { length } => *length,
-        }
-    }
-}
-
-/// Reads the record or blank at a position, wholly below the readable end.
+/// Reads the record or blank at a position, wholly below the readable end. Of the sizes it looks at the segment size and the
+/// first position.
 ///
 /// ```
 /// use swistopal::*;
 ///
 /// # fn main() -> Result<(), Answer> {
-/// let geometry = LogGeometry { segment_size: 1024, first_position: LogPosition(0) };
+/// let sizes = Sizes { segment_size: 1024, ..Sizes::default() };
 /// let mut log = vec![0; 1024];
 /// let mut end = LogPosition(0);
-/// let message = Message { store_time: 10_000, topic: b"T", body: b"chute 9", ..Message::default() };
-/// append(&mut log, geometry, &message, &mut end)?;
-/// assert_eq!(read_record(&log, geometry, LogPosition(0), end)?, Entry::Record { length: 99, message });
-/// assert_eq!(read_record(&log, geometry, LogPosition(0), LogPosition(98)), Err(Answer::NotReadable));
-/// assert_eq!(read_record(&log, geometry, LogPosition(1), end), Err(Answer::Damaged));
+/// let message = Message {
+///     fields: Fields { queue_offset: QueueOffset(3), store_time: 10_000, ..Fields::default() },
+///     born_host: &[10, 20, 0, 11, 0, 0, 0x2a, 0x9f],
+///     topic: b"T",
+///     body: b"chute 9",
+///     ..Message::default()
+/// };
+/// append(&mut log, &sizes, &message, &mut end)?;
+/// assert_eq!(read_record(&log, &sizes, LogPosition(0), end)?, Entry::Record { total: 99, message });
+/// assert_eq!(read_record(&log, &sizes, LogPosition(0), LogPosition(98)), Err(Answer::NotReadable));
+/// assert_eq!(read_record(&log, &sizes, LogPosition(1), end), Err(Answer::Damaged));
 /// # Ok(())
 /// # }
 /// ```
-pub fn read_record(
-    log: &[u8],
-    geometry: LogGeometry,
+pub fn read_record<'l>(
+    log: &'l [u8],
+    sizes: &Sizes,
     position: LogPosition,
     readable_end: LogPosition,
-) -> Result<Entry<'_>, Answer> {
-    let mut out = [0u64; 17];
-    // SAFETY: every pointer is a slice's or an array's; what is written is borrowed alone.
+) -> Result<Entry<'l>, Answer> {
+    let mut record = archive::Record::default();
+    // SAFETY: every pointer is a slice's or a reference's; what is written is borrowed alone.
     let number = unsafe {
         archive::swistopal_read_record(
             log.as_ptr(),
             log.len(),
-            geometry.segment_size,
-            geometry.first_position.0,
+            &sizes.lent(),
             position.0,
             readable_end.0,
-            out.as_mut_ptr(),
+            &mut record,
         )
     };
     match Answer::returned(number) {
         Answer::Done => {}
         stop => return Err(stop),
     }
-    let [kind, length, ..] = out;
-    if kind == 2 {
-        return Ok(Entry::Blank { length });
+    let total = record.total;
+    if record.kind == BLANK {
+        return Ok(Entry::Blank { total });
     }
-    let place = (position.0 - geometry.first_position.0) as usize;
-    let record = &log[place..place + length as usize];
-    let [body, topic, properties] = [out[14] as usize, out[15] as usize, out[16] as usize];
-    Ok(Entry::Record {
-        length,
-        message: Message {
-            body_crc: out[2] as u32,
-            queue_id: out[3] as u32,
-            flag: out[4] as u32,
-            queue_offset: QueueOffset(out[5]),
-            system_flag: out[7] as u32,
-            born_time: out[8],
-            born_host: out[9],
-            store_time: out[10],
-            store_host: out[11],
-            reconsume_times: out[12] as u32,
-            prepared_offset: out[13],
-            body: &record[88..88 + body],
-            topic: &record[89 + body..89 + body + topic],
-            properties: &record[91 + body + topic..91 + body + topic + properties],
-        },
-    })
+    let start = (position.0 - sizes.first_position.0) as usize;
+    let own = &log[start..][..total as usize];
+    let message = Message::of(&record, own);
+    Ok(Entry::Record { total, message })
 }
 
 /// What a dispatch call is given apart from what it changes.
 #[derive(Clone, Copy, Debug)]
 pub struct Dispatch<'a> {
     pub log: &'a [u8],
-    pub log_geometry: LogGeometry,
     pub readable_end: LogPosition,
+    /// All of them are looked at.
+    pub sizes: Sizes,
     pub directory: &'a [u8],
-    pub queue_entries: QueueEntries,
-    pub index_geometry: IndexGeometry,
     /// Steps at most; each handles one record or one blank.
     pub budget: u64,
 }
@@ -252,7 +209,7 @@ pub struct Dispatched {
     pub steps: u64,
 }
 
-/// Dispatches records to their queues and to the index. A refusal is an `Err` and changes nothing.
+/// Dispatches records to their queues and to the index file, `files`. A refusal is an `Err` and changes nothing.
 ///
 /// ```
 /// use swistopal::*;
@@ -260,50 +217,50 @@ pub struct Dispatched {
 /// let log = [0; 1024];
 /// let call = Dispatch {
 ///     log: &log,
-///     log_geometry: LogGeometry { segment_size: 1024, first_position: LogPosition(0) },
 ///     readable_end: LogPosition(1024),
+///     sizes: Sizes {
+///         segment_size: 1024,
+///         first_position: LogPosition(0),
+///         queue_entries: 1,
+///         slot_count: 1,
+///         item_count: 2,
+///     },
 ///     directory: &directory(&[(b"T", 0)]),
-///     queue_entries: QueueEntries(1),
-///     index_geometry: IndexGeometry { slots: 1, items: 2 },
 ///     budget: 10,
 /// };
-/// let (mut progress, mut queues, mut index) = (Progress::default(), [0; 20], [0; 84]);
-/// let stopped = dispatch(&call, &mut progress, &mut queues, &mut index);
+/// let (mut queues, mut index, mut progress) = ([0; 20], [0; 84], Progress::default());
+/// let stopped = dispatch(&call, &mut queues, &mut index, &mut progress);
 /// assert_eq!(stopped, Ok(Dispatched { stop: Answer::Damaged, steps: 0 }));
-/// let refused = dispatch(&call, &mut progress, &mut queues[..19], &mut index);
+/// let refused = dispatch(&call, &mut queues[..19], &mut index, &mut progress);
 /// assert_eq!(refused, Err(Answer::BadDirectory));
 /// ```
 pub fn dispatch(
     call: &Dispatch,
-    progress: &mut Progress,
     queues: &mut [u8],
-    index: &mut [u8],
+    files: &mut [u8],
+    progress: &mut Progress,
 ) -> Result<Dispatched, Answer> {
-    let mut numbers = progress.numbers();
+    let mut lent = progress.lent();
     let mut steps = 0;
-    // SAFETY: every pointer is a slice's, an array's or a reference's; what is written is borrowed alone.
+    // SAFETY: every pointer is a slice's or a reference's; what is written is borrowed alone.
     let number = unsafe {
         archive::swistopal_dispatch(
             call.log.as_ptr(),
             call.log.len(),
-            call.log_geometry.segment_size,
-            call.log_geometry.first_position.0,
             call.readable_end.0,
+            &call.sizes.lent(),
             call.directory.as_ptr(),
             call.directory.len(),
-            call.queue_entries.0,
             queues.as_mut_ptr(),
             queues.len(),
-            call.index_geometry.slots,
-            call.index_geometry.items,
-            index.as_mut_ptr(),
-            index.len(),
+            files.as_mut_ptr(),
+            files.len(),
             call.budget,
-            numbers.as_mut_ptr(),
+            &mut lent,
             &mut steps,
         )
     };
-    *progress = Progress::of_numbers(&numbers);
+    *progress = Progress::of(&lent);
     match Answer::returned(number) {
         refusal @ (Answer::BadSizes
         | Answer::BadPosition
@@ -317,9 +274,11 @@ pub fn dispatch(
 #[derive(Clone, Copy, Debug)]
 pub struct QueueReading<'a> {
     pub queues: &'a [u8],
-    pub queue_entries: QueueEntries,
+    /// Only the queue entries are looked at.
+    pub sizes: Sizes,
     pub directory: &'a [u8],
-    pub counts: &'a [QueueOffset; 16],
+    /// Only the counts are looked at.
+    pub progress: &'a Progress,
     /// The directory's row, from 0.
     pub row: u64,
     pub start: QueueOffset,
@@ -338,9 +297,9 @@ pub struct QueueReading<'a> {
 /// queues[7] = 5;
 /// let reading = QueueReading {
 ///     queues: &queues,
-///     queue_entries: QueueEntries(2),
+///     sizes: Sizes { queue_entries: 2, ..Sizes::default() },
 ///     directory: &directory(&[(b"T", 0)]),
-///     counts: &[QueueOffset(1); 16],
+///     progress: &Progress { counts: [QueueOffset(1); 16], ..Progress::default() },
 ///     row: 0,
 ///     start: QueueOffset(0),
 ///     wanted: 4,
@@ -355,17 +314,16 @@ pub fn read_queue<'o>(
     out: &'o mut [LogPosition],
 ) -> Result<&'o [LogPosition], Answer> {
     let mut found = 0;
-    let counts = reading.counts.map(|count| count.0);
-    // SAFETY: every pointer is a slice's, an array's or a reference's; what is written is borrowed alone. A log position
-    // is laid out as its number.
+    // SAFETY: every pointer is a slice's or a reference's; what is written is borrowed alone. A log position is laid out as
+    // its number.
     let number = unsafe {
         archive::swistopal_read_queue(
             reading.queues.as_ptr(),
             reading.queues.len(),
-            reading.queue_entries.0,
+            &reading.sizes.lent(),
             reading.directory.as_ptr(),
             reading.directory.len(),
-            counts.as_ptr(),
+            &reading.progress.lent(),
             reading.row,
             reading.start.0,
             reading.wanted,
@@ -386,7 +344,8 @@ pub fn read_queue<'o>(
 #[derive(Clone, Copy, Debug)]
 pub struct Query<'a> {
     pub index: &'a [u8],
-    pub index_geometry: IndexGeometry,
+    /// Only the slot count and the item count are looked at.
+    pub sizes: Sizes,
     pub topic: &'a [u8],
     pub key: &'a [u8],
     pub first_time: u64,
@@ -397,11 +356,11 @@ pub struct Query<'a> {
 
 /// What a query found before it ended.
 #[derive(Clone, Copy, Debug, PartialEq, Eq)]
-pub struct Queried<'o> {
+pub struct Found<'o> {
     /// [`Answer::Done`] or [`Answer::ChainBroken`].
     pub stop: Answer,
-    /// Newest first. Other keys may share the hash: read the record to be sure.
-    pub found: &'o [LogPosition],
+    /// Newest first. Other keys may share the hash: [`has_item`] tells of the record that was read there.
+    pub positions: &'o [LogPosition],
     /// Items read, a bad one included.
     pub items_read: u64,
 }
@@ -413,7 +372,7 @@ pub struct Queried<'o> {
 ///
 /// let question = Query {
 ///     index: &[0; 84],
-///     index_geometry: IndexGeometry { slots: 1, items: 2 },
+///     sizes: Sizes { slot_count: 1, item_count: 2, ..Sizes::default() },
 ///     topic: b"T",
 ///     key: b"k",
 ///     first_time: 0,
@@ -421,19 +380,19 @@ pub struct Queried<'o> {
 ///     wanted: 0,
 /// };
 /// let mut out = [LogPosition(0); 32];
-/// assert_eq!(query(&question, &mut out).unwrap().found, []);
+/// let found = Found { stop: Answer::Done, positions: &[], items_read: 0 };
+/// assert_eq!(query(&question, &mut out), Ok(found));
 /// assert_eq!(query(&question, &mut out[..31]), Err(Answer::Malformed));
 /// ```
-pub fn query<'o>(question: &Query, out: &'o mut [LogPosition]) -> Result<Queried<'o>, Answer> {
-    let mut counts = [0u64; 2];
-    // SAFETY: every pointer is a slice's or an array's; what is written is borrowed alone. A log position is laid out as
+pub fn query<'o>(question: &Query, out: &'o mut [LogPosition]) -> Result<Found<'o>, Answer> {
+    let mut found = archive::Found::default();
+    // SAFETY: every pointer is a slice's or a reference's; what is written is borrowed alone. A log position is laid out as
     // its number.
     let number = unsafe {
         archive::swistopal_query(
             question.index.as_ptr(),
             question.index.len(),
-            question.index_geometry.slots,
-            question.index_geometry.items,
+            &question.sizes.lent(),
             question.topic.as_ptr(),
             question.topic.len(),
             question.key.as_ptr(),
@@ -443,15 +402,38 @@ pub fn query<'o>(question: &Query, out: &'o mut [LogPosition]) -> Result<Queried
             question.wanted,
             out.as_mut_ptr().cast(),
             out.len(),
-            counts.as_mut_ptr(),
+            &mut found,
         )
     };
     match Answer::returned(number) {
-        stop @ (Answer::Done | Answer::ChainBroken) => Ok(Queried {
+        stop @ (Answer::Done | Answer::ChainBroken) => Ok(Found {
             stop,
-            found: &out[..counts[0] as usize],
-            items_read: counts[1],
+            positions: &out[..found.positions as usize],
+            items_read: found.items_read,
         }),
+        refusal => Err(refusal),
+    }
+}
+
+/// Whether an index file has its length and a sound header, [`Answer::BadSizes`] or [`Answer::BadHeader`] if not. Of the
+/// sizes it looks at the slot count and the item count.
+///
+/// ```
+/// use swistopal::*;
+///
+/// let sizes = Sizes { slot_count: 1, item_count: 2, ..Sizes::default() };
+/// let mut index = [0; 84];
+/// assert_eq!(check_index(&index, &sizes), Ok(()));
+/// assert_eq!(check_index(&index[1..], &sizes), Err(Answer::BadSizes));
+/// index[39] = 3;
+/// assert_eq!(check_index(&index, &sizes), Err(Answer::BadHeader));
+/// ```
+pub fn check_index(index: &[u8], sizes: &Sizes) -> Result<(), Answer> {
+    // SAFETY: every pointer is a slice's or a reference's; nothing is written.
+    let number =
+        unsafe { archive::swistopal_check_index(index.as_ptr(), index.len(), &sizes.lent()) };
+    match Answer::returned(number) {
+        Answer::Done => Ok(()),
         refusal => Err(refusal),
     }
 }

@@ -145,7 +145,7 @@ impl<'a> Site<'a> {
 
     /// Damage may go over several segments.
     fn further_copies(&self, skipped: &Skipped, report: &mut Report) {
-        let size = self.log.geometry.segment_size;
+        let size = self.log.sizes.segment_size;
         let mut first = (skipped.from.0 / size + 1) * size;
         while first < skipped.to.0 && self.log.has(LogPosition(first)) {
             let (name, _) = self.segment(LogPosition(first));
@@ -166,7 +166,7 @@ impl<'a> Site<'a> {
         if place.is_file() {
             return (shown_path(place), shown_path(place));
         }
-        let size = self.log.geometry.segment_size;
+        let size = self.log.sizes.segment_size;
         let name = format!("commitlog/{:020}", position.0 / size * size);
         let path = shown_path(place.join(&name));
         (name, path)

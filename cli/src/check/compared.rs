@@ -153,16 +153,16 @@ struct Pass<'a> {
 
 impl Pass<'_> {
     fn meet(&mut self, met: Met) -> Result<(), Failure> {
-        let (position, length, message, behind) = match met {
+        let (position, total, message, behind) = match met {
             Met::Skipped(_) => {
                 self.passed += 1;
                 return Ok(());
             }
             Met::Entry {
                 position,
-                entry: Entry::Record { length, message },
+                entry: Entry::Record { total, message },
                 behind,
-            } => (position, length, message, behind),
+            } => (position, total, message, behind),
             Met::Entry { .. } => return Ok(()),
         };
         self.near.look_ahead(position);
@@ -170,13 +170,13 @@ impl Pass<'_> {
         if self.steps.is_multiple_of(1024) {
             self.meter.show(position.0, self.steps);
         }
-        self.record(position, length, &message, behind)
+        self.record(position, total, &message, behind)
     }
 
     fn record(
         &mut self,
         position: LogPosition,
-        length: u64,
+        total: u64,
         message: &Message,
         behind: bool,
     ) -> Result<(), Failure> {
@@ -193,13 +193,12 @@ impl Pass<'_> {
             self.sides.take(&Given {
                 entry: QueueEntry {
                     position: position.0,
-                    size: length as u32,
+                    size: total as u32,
                     code,
                 },
-                number: message.queue_offset.0,
+                number: message.fields.queue_offset.0,
                 other_hash,
-                topic: message.topic,
-                id: message.queue_id,
+                message,
                 passed: self.passed,
                 behind,
             })?;

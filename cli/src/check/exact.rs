@@ -30,7 +30,7 @@ pub fn index_is_same(made: &Made, indexes: &[Index]) -> bool {
         [] => true,
         [index] => {
             let found = Bytes(&index.bytes);
-            let slots = index.geometry.slots;
+            let slots = index.sizes.slot_count;
             let header = found.used() == made.used() && found.0[..36] == made.0[..36];
             let from = slot_place(0) as usize;
             let to = item_place(slots, made.used()) as usize;
@@ -44,7 +44,7 @@ pub fn index_is_same(made: &Made, indexes: &[Index]) -> bool {
 /// been before this one: the seconds of its first item then count from there.
 pub fn difference(made: &Made, index: &Index, cut: bool) -> Option<Differs> {
     let (made, found) = (Bytes(&made.index), Bytes(&index.bytes));
-    let slots = index.geometry.slots;
+    let slots = index.sizes.slot_count;
     let items = 1..found.used().min(made.used());
     let item = |bytes: &Bytes, item| {
         let seconds = bytes.seconds(slots, item)?;

@@ -24,9 +24,9 @@ impl Made {
     pub fn new(log: &Log, plan: Plan, listed: bool) -> Result<Made, Failure> {
         let here = Path::new("memory");
         let rows = MOST_QUEUES.max(plan.rows.len()) as u64;
-        let length = plan.entries.buffer_length(rows);
+        let length = plan.sizes.queues_len(rows);
         let queues = Draft::of_zeros(length.unwrap_or(0)).at("take", here)?;
-        let length = plan.index.buffer_length();
+        let length = plan.sizes.index_len();
         let index = Draft::of_zeros(length.unwrap_or(0)).at("take", here)?;
         let mut progress = Progress::from_position(log.first());
         for (count, row) in progress.counts.iter_mut().zip(&plan.rows) {
@@ -47,7 +47,7 @@ impl Made {
     pub fn meet(&mut self, log: &Log, position: LogPosition, row: Row) {
         let known = |known: &Row| known.queue == row.queue;
         let number = self.plan.rows.iter().position(known);
-        let why = if row.start.0 > self.plan.entries.0 {
+        let why = if row.start.0 > self.plan.sizes.queue_entries {
             Answer::QueueFull
         } else if let Some(number) = number {
             self.progress.counts[number] = row.start;
@@ -78,18 +78,16 @@ impl Made {
         if self.stop != Answer::Done || nothing {
             return;
         }
-        let length = self.plan.entries.buffer_length(self.plan.rows.len() as u64);
+        let length = self.plan.sizes.queues_len(self.plan.rows.len() as u64);
         let call = Dispatch {
             log: log.bytes(),
-            log_geometry: log.geometry,
             readable_end: to,
+            sizes: self.plan.sizes,
             directory: &self.directory,
-            queue_entries: self.plan.entries,
-            index_geometry: self.plan.index,
             budget: u64::MAX,
         };
         let queues = &mut self.queues[..length.unwrap_or(0)];
-        self.stop = match dispatch(&call, &mut self.progress, queues, &mut self.index) {
+        self.stop = match dispatch(&call, queues, &mut self.index, &mut self.progress) {
             Ok(done) => done.stop,
             Err(refusal) => refusal,
         };
@@ -113,7 +111,7 @@ impl Made {
 
     /// The entries of a queue from its start on, and the number of the first one.
     pub fn entries(&self, row: usize) -> (u64, &[u8]) {
-        let region = self.plan.entries.0 as usize * ENTRY;
+        let region = self.plan.sizes.queue_entries as usize * ENTRY;
         let QueueOffset(start) = self.plan.rows[row].start;
         let QueueOffset(count) = self.progress.counts[row];
         let place = |number: u64| row * region + number as usize * ENTRY;

@@ -4,16 +4,17 @@
 use crate::index::{item_place, Bytes};
 use crate::queues::{directory, Queue, QueueEntry, ENTRY};
 use swistopal::{
-    append, dispatch, Answer, Dispatch, IndexGeometry, LogGeometry, LogPosition, Message, Progress,
-    QueueEntries, QueueOffset,
+    append, dispatch, Answer, Dispatch, Fields, LogPosition, Message, Progress, QueueOffset, Sizes,
 };
 
-/// A record without its body fits, whatever its topic and its properties are.
-const SEGMENT: usize = 65_536;
-/// Each key takes two bytes of the properties at least.
-const INDEX: IndexGeometry = IndexGeometry {
-    slots: 1,
-    items: 16_500,
+/// A record without its body fits into the segment, whatever its topic and its properties are. Each key takes two bytes of
+/// the properties at least.
+const SIZES: Sizes = Sizes {
+    segment_size: 65_536,
+    first_position: LogPosition(0),
+    queue_entries: 1,
+    slot_count: 1,
+    item_count: 16_500,
 };
 
 pub struct Maker {
@@ -34,8 +35,8 @@ pub struct Made<'m> {
 impl Maker {
     pub fn new() -> Maker {
         Maker {
-            log: vec![0; SEGMENT],
-            index: vec![0; INDEX.buffer_length().expect("it fits into memory")],
+            log: vec![0; SIZES.segment_size as usize],
+            index: vec![0; SIZES.index_len().expect("it fits into memory")],
             topic: Vec::new(),
             directory: Vec::new(),
             hashes: Vec::new(),
@@ -45,31 +46,28 @@ impl Maker {
     pub fn make(&mut self, message: &Message) -> Result<Made<'_>, Answer> {
         self.list(message.topic);
         let message = Message {
-            queue_id: 0,
-            queue_offset: QueueOffset(0),
+            fields: Fields {
+                queue_id: 0,
+                queue_offset: QueueOffset(0),
+                ..message.fields
+            },
             body: &[],
             ..*message
         };
-        let log_geometry = LogGeometry {
-            segment_size: SEGMENT as u64,
-            first_position: LogPosition(0),
-        };
         let mut end = LogPosition(0);
-        append(&mut self.log, log_geometry, &message, &mut end)?;
+        append(&mut self.log, &SIZES, &message, &mut end)?;
         // An empty index: the header and the one slot.
-        self.index[..item_place(INDEX.slots, 0) as usize].fill(0);
+        self.index[..item_place(SIZES.slot_count, 0) as usize].fill(0);
         let call = Dispatch {
             log: &self.log,
-            log_geometry,
             readable_end: end,
+            sizes: SIZES,
             directory: &self.directory,
-            queue_entries: QueueEntries(1),
-            index_geometry: INDEX,
             budget: u64::MAX,
         };
         let mut progress = Progress::default();
         let mut entry = [0; ENTRY];
-        let done = dispatch(&call, &mut progress, &mut entry, &mut self.index)?;
+        let done = dispatch(&call, &mut entry, &mut self.index, &mut progress)?;
         if done.stop != Answer::Done {
             return Err(done.stop);
         }
@@ -91,7 +89,7 @@ impl Maker {
 
     fn take_hashes(&mut self) -> &[u32] {
         let index = Bytes(&self.index);
-        let items = (1..index.used()).filter_map(|item| index.item_hash(INDEX.slots, item));
+        let items = (1..index.used()).filter_map(|item| index.item_hash(SIZES.slot_count, item));
         self.hashes.clear();
         self.hashes.extend(items);
         &self.hashes

@@ -47,11 +47,11 @@ pub struct Item {
 impl Merged<'_> {
     fn used(&self) -> u64 {
         let used = Bytes(&self.index.bytes).used();
-        used.min(self.index.geometry.items)
+        used.min(self.index.sizes.item_count)
     }
 
     fn item(&self, number: u64) -> Option<Item> {
-        let (bytes, slots) = (Bytes(&self.index.bytes), self.index.geometry.slots);
+        let (bytes, slots) = (Bytes(&self.index.bytes), self.index.sizes.slot_count);
         Some(Item {
             hash: bytes.item_hash(slots, number)?,
             position: bytes.item_position(slots, number)?,

@@ -32,7 +32,7 @@ use reach::Reach;
 use report::{fault, sound, Report};
 use results::Results;
 pub use survey::DELAYED;
-use swistopal::{Answer, IndexGeometry, QueueEntries, QueueOffset};
+use swistopal::{Answer, QueueOffset, Sizes};
 
 pub fn run(args: &Args) -> Result<Outcome, Failure> {
     let store = args.place();
@@ -73,13 +73,9 @@ pub fn run(args: &Args) -> Result<Outcome, Failure> {
 /// cannot be the same: several index files, or one that begins before the log.
 fn begin(log: &Log, results: &Results, listed: Option<&[Queue]>) -> Result<Option<Made>, Failure> {
     let newest = results.indexes.last();
-    let index = newest.map_or(
-        IndexGeometry {
-            slots: MOST_SLOTS,
-            items: MOST_ITEMS,
-        },
-        |index| index.geometry,
-    );
+    let (slot_count, item_count) = newest.map_or((MOST_SLOTS, MOST_ITEMS), |index| {
+        (index.sizes.slot_count, index.sizes.item_count)
+    });
     let first = newest.and_then(|index| Bytes(&index.bytes).first_position());
     let older = first.is_some_and(|first| first < log.first().0);
     if older || results.indexes.len() > 1 || log.bytes().is_empty() {
@@ -92,9 +88,12 @@ fn begin(log: &Log, results: &Results, listed: Option<&[Queue]>) -> Result<Optio
         start,
     });
     let plan = Plan {
-        log: log.geometry,
-        entries: QueueEntries(MOST_ENTRIES),
-        index,
+        sizes: Sizes {
+            queue_entries: MOST_ENTRIES,
+            slot_count,
+            item_count,
+            ..log.sizes
+        },
         index_name: String::new(),
         rows: rows.collect(),
     };
@@ -145,7 +144,7 @@ fn check_results(
 fn check_work(site: &Site, standing: &Standing, report: &mut Report) -> Result<bool, Failure> {
     let begun = match work::plan_under_way(site.args.place()) {
         Ok(None) => return Ok(false),
-        Ok(Some(plan)) if plan.log == site.log.geometry => Ok(plan),
+        Ok(Some(plan)) if plan.is_for(site.log) => Ok(plan),
         Ok(Some(_)) => Err(String::from(
             "one has begun with a log of another start or segment size",
         )),

@@ -5,7 +5,7 @@ use crate::failure::Failure;
 use crate::files::{Refused, Unfit};
 use crate::index::{self, item_place, Bytes, Index, MOST_ITEMS, MOST_SLOTS};
 use crate::queues::{self, Queue};
-use swistopal::{query, Answer, IndexGeometry, LogPosition, Query};
+use swistopal::check_index;
 
 pub struct Results {
     /// Those whose header is good and that have an item.
@@ -65,10 +65,11 @@ impl Results {
     /// slots are of the same length.
     fn find_cut(&mut self, asked: Option<u64>) {
         for index in &self.indexes {
-            let IndexGeometry { slots, items } = index.geometry;
-            let alike = self.indexes.iter().map(|other| other.geometry);
-            let alike = alike.filter(|other| other.slots == slots);
-            let most = alike.map(|other| other.items).max().unwrap_or(items);
+            let (slots, items) = (index.sizes.slot_count, index.sizes.item_count);
+            let alike = self.indexes.iter().map(|other| other.sizes);
+            let alike = alike.filter(|other| other.slot_count == slots);
+            let most = alike.map(|other| other.item_count).max();
+            let most = most.unwrap_or(items);
             let most = match (slots, asked) {
                 (MOST_SLOTS, None) => MOST_ITEMS,
                 (_, asked) => asked.unwrap_or(most),
@@ -100,7 +101,7 @@ impl Results {
                 "index {name}: it names positions above 2^40, up to which this tool reads a log"
             );
             self.refused.push(Refused::new(Unfit::Limit, sentence));
-        } else if let Err(answer) = ask_header(&index) {
+        } else if let Err(answer) = check_index(&index.bytes, &index.sizes) {
             let (name, number) = (&index.name, answer.number());
             let sentence = format!("{name}: answer {number}: {answer}");
             self.refused.push(refuse(sentence));
@@ -108,18 +109,4 @@ impl Results {
             self.indexes.push(index);
         }
     }
-}
-
-/// The archive judges a header with each query; this one asks for nothing else.
-fn ask_header(index: &Index) -> Result<(), Answer> {
-    let question = Query {
-        index: &index.bytes,
-        index_geometry: index.geometry,
-        topic: b"-",
-        key: b"-",
-        first_time: 0,
-        last_time: 0,
-        wanted: 1,
-    };
-    query(&question, &mut [LogPosition(0)]).map(|_| ())
 }

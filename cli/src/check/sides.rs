@@ -8,6 +8,7 @@ use crate::queues::{self, Queue, QueueEntry, QueueFile, ENTRY, NO_RECORD};
 use std::collections::HashMap;
 use std::ops::Range;
 use std::path::Path;
+use swistopal::Message;
 
 /// One queue.
 pub struct Side {
@@ -58,8 +59,7 @@ pub struct Given<'a> {
     pub number: u64,
     /// Whether its tag's code may be another one by Java's rule.
     pub other_hash: bool,
-    pub topic: &'a [u8],
-    pub id: u32,
+    pub message: &'a Message<'a>,
     /// How many parts of the log have been passed over before it.
     pub passed: usize,
     /// Whether it was read behind damage.
@@ -73,7 +73,7 @@ pub struct Sides<'a> {
     /// Only these, if they were listed.
     listed: Option<Vec<Queue>>,
     pub list: Vec<Side>,
-    numbers: HashMap<Vec<u8>, HashMap<u32, Option<usize>>>,
+    numbers: HashMap<Vec<u8>, HashMap<u64, Option<usize>>>,
     /// Records of queues that are not listed.
     pub unlisted: u64,
 }
@@ -91,14 +91,12 @@ impl<'a> Sides<'a> {
     }
 
     pub fn take(&mut self, given: &Given) -> Result<(), Failure> {
-        let known = self.numbers.get(given.topic);
-        let known = known.and_then(|ids| ids.get(&given.id).copied());
+        let message = given.message;
+        let known = self.numbers.get(message.topic);
+        let known = known.and_then(|ids| ids.get(&message.fields.queue_id).copied());
         let number = match known {
             Some(number) => number,
-            None => self.add(Queue {
-                topic: given.topic.to_vec(),
-                id: given.id,
-            })?,
+            None => self.add(Queue::of(message))?,
         };
         match number {
             Some(number) => self.list[number].take(given, self.cut),
@@ -115,7 +113,7 @@ impl<'a> Sides<'a> {
             false => None,
         };
         let ids = self.numbers.entry(queue.topic.clone()).or_default();
-        ids.insert(queue.id, number);
+        ids.insert(queue.id.into(), number);
         if number.is_some() {
             self.list.push(Side::open(self.store, queue)?);
         }
@@ -134,7 +132,7 @@ impl<'a> Sides<'a> {
         let listed = self.listed.clone().unwrap_or_default();
         for queue in listed.into_iter().chain(on_disk) {
             let known = self.numbers.get(&queue.topic);
-            if known.is_none_or(|ids| !ids.contains_key(&queue.id)) {
+            if known.is_none_or(|ids| !ids.contains_key(&queue.id.into())) {
                 self.add(queue)?;
             }
         }

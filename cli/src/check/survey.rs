@@ -7,11 +7,11 @@ use crate::crc;
 use crate::failure::Failure;
 use crate::log::{End, Log, Met, Skipped};
 use crate::meter::Meter;
-use crate::plan::{makes_entry, Row};
+use crate::plan::Row;
 use crate::queues::Queue;
 use std::collections::HashMap;
 use std::path::Path;
-use swistopal::{Answer, Entry, LogPosition, Message, QueueOffset};
+use swistopal::{makes_entry, Answer, Entry, LogPosition, Message, QueueOffset};
 
 /// Entries of this topic's queues have the time of delivery in the place of a tag's code.
 pub const DELAYED: &[u8] = b"SCHEDULE_TOPIC_XXXX";
@@ -56,8 +56,8 @@ pub struct Bodies {
 
 pub struct BadBody {
     pub position: LogPosition,
-    pub stored: u32,
-    pub computed: u32,
+    pub stored: u64,
+    pub computed: u64,
 }
 
 /// A queue that records of the log belong to.
@@ -72,30 +72,29 @@ pub struct SeenQueue {
 #[derive(Default)]
 pub struct Seen {
     pub list: Vec<SeenQueue>,
-    numbers: HashMap<Vec<u8>, HashMap<u32, usize>>,
+    numbers: HashMap<Vec<u8>, HashMap<u64, usize>>,
 }
 
 impl Seen {
     /// How many queues are compared one by one before others are looked up.
     const FEW: usize = 16;
 
-    fn number(&self, topic: &[u8], id: u32) -> Option<usize> {
+    fn number(&self, message: &Message) -> Option<usize> {
         let few = &self.list[..self.list.len().min(Self::FEW)];
-        let is_it = |seen: &SeenQueue| seen.queue.id == id && seen.queue.topic == topic;
-        let among_few = few.iter().position(is_it);
-        among_few.or_else(|| self.numbers.get(topic)?.get(&id).copied())
+        let among_few = few.iter().position(|seen| seen.queue.is_of(message));
+        among_few.or_else(|| {
+            let ids = self.numbers.get(message.topic)?;
+            ids.get(&message.fields.queue_id).copied()
+        })
     }
 
     fn add(&mut self, message: &Message) -> usize {
         let number = self.list.len();
-        let topic = message.topic.to_vec();
-        let ids = self.numbers.entry(topic.clone()).or_default();
-        ids.insert(message.queue_id, number);
+        let queue = Queue::of(message);
+        let ids = self.numbers.entry(queue.topic.clone()).or_default();
+        ids.insert(message.fields.queue_id, number);
         self.list.push(SeenQueue {
-            queue: Queue {
-                topic,
-                id: message.queue_id,
-            },
+            queue,
             records: 0,
             last: 0,
         });
@@ -190,27 +189,26 @@ impl Surveyor<'_> {
 
     fn record(&mut self, position: LogPosition, message: &Message) {
         let survey = &mut self.survey;
-        let time = message.store_time;
+        let time = message.fields.store_time;
         let (low, high) = survey.times.unwrap_or((time, time));
         survey.times = Some((low.min(time), high.max(time)));
         if let Some(bodies) = survey.bodies.as_mut() {
             bodies.judge(position, message);
         }
-        if !makes_entry(message.system_flag) {
+        if !makes_entry(message) {
             return;
         }
-        let (topic, id) = (message.topic, message.queue_id);
-        let number = match survey.queues.number(topic, id) {
+        let number = match survey.queues.number(message) {
             Some(number) => number,
             None => {
                 let number = survey.queues.add(message);
-                self.new_queue(position, number, message.queue_offset);
+                self.new_queue(position, number, message.fields.queue_offset);
                 number
             }
         };
         let seen = &mut self.survey.queues.list[number];
         seen.records += 1;
-        seen.last = seen.last.max(message.queue_offset.0);
+        seen.last = seen.last.max(message.fields.queue_offset.0);
     }
 
     /// The archive makes this queue too, from its first record on.
@@ -234,7 +232,7 @@ impl Bodies {
     fn judge(&mut self, position: LogPosition, message: &Message) {
         self.judged += 1;
         self.bytes += message.body.len() as u64;
-        let (stored, computed) = (message.body_crc, crc::of_body(message.body));
+        let (stored, computed) = (message.fields.body_crc, crc::of_body(message.body));
         if stored != computed {
             self.damaged.push(BadBody {
                 position,

@@ -10,7 +10,7 @@ use crate::time;
 
 pub fn log(log: &Log, survey: &Survey, report: &mut Report) {
     let counts = &survey.before;
-    let size = log.geometry.segment_size;
+    let size = log.sizes.segment_size;
     let sentence = format!(
         "{} of {} bytes from {}: {}, {}",
         counted(log.segments, "segment", "segments"),
@@ -113,8 +113,8 @@ pub fn bodies(survey: &Survey, report: &mut Report) {
         report.add(
             fault("bodies", "body", sentence)
                 .number("position", bad.position.0)
-                .number("stored", u64::from(bad.stored))
-                .number("computed", u64::from(bad.computed)),
+                .number("stored", bad.stored)
+                .number("computed", bad.computed),
         );
     }
 }

@@ -81,9 +81,9 @@ fn sizes(index: &Index) -> String {
         "{}: {} of {}, {} of {} slots filled",
         index.name,
         counted(found.used() - 1, "item", "items"),
-        grouped(index.geometry.items - 1),
+        grouped(index.sizes.item_count - 1),
         grouped(found.filled()),
-        grouped(index.geometry.slots)
+        grouped(index.sizes.slot_count)
     )
 }
 
@@ -92,9 +92,9 @@ fn index_finding(finding: Finding, index: &Index) -> Finding {
     finding
         .text("name", &index.name)
         .number("items", found.used() - 1)
-        .number("most_items", index.geometry.items - 1)
+        .number("most_items", index.sizes.item_count - 1)
         .number("filled_slots", found.filled())
-        .number("slots", index.geometry.slots)
+        .number("slots", index.sizes.slot_count)
 }
 
 fn merged_file(merged: &Merged, others: &Others, reach: &Reach, report: &mut Report) {

@@ -42,7 +42,7 @@ impl Log {
 impl Stretch {
     /// The first byte before a position that the medium does not give, to a page.
     fn first_unreadable(&self, end: LogPosition) -> Option<LogPosition> {
-        let size = self.geometry.segment_size;
+        let size = self.sizes.segment_size;
         let mut first = self.first().0;
         for path in &self.paths {
             let length = size.min(end.0.saturating_sub(first));

@@ -112,7 +112,7 @@ impl Log {
             behind |= self.is_behind_a_fault(position);
             let (met, next) = match self.entry(position) {
                 Ok(entry) => {
-                    let next = LogPosition(position.0 + entry.length());
+                    let next = LogPosition(position.0 + entry.total());
                     let met = Met::Entry {
                         position,
                         entry,
@@ -140,7 +140,7 @@ impl Log {
         if let Ok(entry) = self.entry(position) {
             return Ok(Place::Entry { position, entry });
         }
-        let size = self.geometry.segment_size;
+        let size = self.sizes.segment_size;
         let start = LogPosition(position.0 / size * size).max(self.first());
         let mut found = Place::End;
         self.walk_on(start, |met| {
@@ -148,7 +148,7 @@ impl Log {
                 Met::Entry {
                     position, entry, ..
                 } => {
-                    let end = position.0 + entry.length();
+                    let end = position.0 + entry.total();
                     (Place::Entry { position, entry }, end)
                 }
                 Met::Skipped(skipped) => (Place::Skipped(skipped), skipped.to.0),
@@ -265,7 +265,7 @@ impl Stretch {
     /// The first place from a position on where a record or a blank stands. In a segment records come first: nothing is ever
     /// written behind a blank, so what looks like one before a record is part of something else.
     fn next_sound(&self, position: LogPosition) -> Option<LogPosition> {
-        let size = self.geometry.segment_size;
+        let size = self.sizes.segment_size;
         let mut from = position.0;
         while from < self.end.0 {
             let to = self.end.0.min((from / size + 1) * size);
@@ -296,7 +296,7 @@ impl Stretch {
     }
 
     fn long_hosts(&self, position: LogPosition) -> Option<u64> {
-        let size = self.geometry.segment_size;
+        let size = self.sizes.segment_size;
         let rest = self.rest(position);
         let segment = rest.len().min((size - position.0 % size) as usize);
         let rest = &rest[..segment];

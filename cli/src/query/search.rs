@@ -3,12 +3,13 @@
 use crate::failure::Failure;
 use crate::index::{Bytes, Index};
 use crate::log::{self, Log, Met, Place, Skipped, LAST_END};
-use crate::properties::{has_items, Names};
 use crate::record::{self, LeftOut, Read};
 use crate::text::{counted, grouped};
 use crate::wanted::Seen;
 use std::cmp::Reverse;
-use swistopal::{query, Answer, Entry, LogPosition, Message, Query};
+use swistopal::{
+    find_values, has_item, item_count, query, Answer, Entry, LogPosition, Message, Query,
+};
 
 /// What is looked for.
 pub struct Asked<'a> {
@@ -23,17 +24,15 @@ pub struct Asked<'a> {
 
 impl Asked<'_> {
     fn is_for(&self, message: &Message) -> bool {
-        let names = Names::of(message.properties);
-        self.topic.is_none_or(|topic| topic == message.topic)
-            && names.index_keys().any(|key| key == self.key)
-            && self.accepts(message, &names)
+        let topic = self.topic.unwrap_or(message.topic);
+        has_item(message, topic, self.key) && self.accepts(message)
     }
 
     /// Of a record that carries the key.
-    fn accepts(&self, message: &Message, names: &Names) -> bool {
+    fn accepts(&self, message: &Message) -> bool {
         let (first, last) = self.times;
-        (first..=last).contains(&message.store_time)
-            && (!self.unique || names.unique_key == Some(self.key))
+        (first..=last).contains(&message.fields.store_time)
+            && (!self.unique || find_values(message.properties).unique_key == Some(self.key))
     }
 }
 
@@ -115,7 +114,7 @@ impl<'a> Search<'a> {
     /// in its answer, so it is asked for more until enough records are the right ones or the chain has ended.
     pub fn ask(&mut self, question: &Query, name: &str, most: u64) -> Result<u64, Failure> {
         self.by_index = true;
-        let items = question.index_geometry.items;
+        let items = question.sizes.item_count;
         let mut wanted = most.min(items);
         loop {
             let mut places = vec![LogPosition(0); wanted as usize];
@@ -123,8 +122,8 @@ impl<'a> Search<'a> {
                 wanted,
                 ..*question
             };
-            let queried = match query(&question, &mut places) {
-                Ok(queried) => queried,
+            let answered = match query(&question, &mut places) {
+                Ok(found) => found,
                 Err(refusal) => {
                     let number = refusal.number();
                     self.faults.push(format!(
@@ -136,23 +135,23 @@ impl<'a> Search<'a> {
             let mut once = Search::new(self.log, self.asked);
             once.faults.clear();
             once.limits.clear();
-            once.read_back(question.topic, queried.found, name);
+            once.read_back(question.topic, answered.positions, name);
             let enough = once.found.len() as u64 >= most;
-            let all_seen = (queried.found.len() as u64) < wanted || wanted == items;
+            let all_seen = (answered.positions.len() as u64) < wanted || wanted == items;
             if !enough && !all_seen {
                 wanted = wanted.saturating_mul(4).min(items);
                 continue;
             }
-            if queried.stop == Answer::ChainBroken {
+            if answered.stop == Answer::ChainBroken {
                 once.faults.push(format!(
                     "index {name}: answer 16 after {}: {}; older records may be missing here, and --scan looks through the log \
                      itself",
-                    counted(queried.items_read, "item", "items"),
-                    queried.stop
+                    counted(answered.items_read, "item", "items"),
+                    answered.stop
                 ));
             }
             once.found.truncate(most as usize);
-            once.items_read = queried.items_read;
+            once.items_read = answered.items_read;
             let found = once.found.len() as u64;
             self.take(once);
             return Ok(found);
@@ -179,8 +178,8 @@ impl<'a> Search<'a> {
                 continue;
             }
             match self.log.entry(position) {
-                Ok(Entry::Record { length, message }) => {
-                    self.read_item(topic, position, length, message)
+                Ok(Entry::Record { total, message }) => {
+                    self.read_item(topic, position, total, message)
                 }
                 Ok(Entry::Blank { .. }) => self.faults.push(format!(
                     "index {name}: it names position {}, where the log has a blank",
@@ -191,21 +190,13 @@ impl<'a> Search<'a> {
         }
     }
 
-    fn read_item(
-        &mut self,
-        topic: &[u8],
-        position: LogPosition,
-        length: u64,
-        message: Message<'a>,
-    ) {
-        let names = Names::of(message.properties);
-        let mut keys = names.index_keys();
-        if message.topic != topic || !keys.any(|key| key == self.asked.key) {
+    fn read_item(&mut self, topic: &[u8], position: LogPosition, total: u64, message: Message<'a>) {
+        if !has_item(&message, topic, self.asked.key) {
             self.same_hash_only += 1;
-        } else if self.asked.accepts(&message, &names) {
+        } else if self.asked.accepts(&message) {
             self.found.push(Read {
                 position,
-                length,
+                total,
                 message,
                 behind: self.log.is_behind_a_fault(position),
             });
@@ -236,12 +227,12 @@ impl<'a> Search<'a> {
                     entry,
                     behind,
                 } => {
-                    if let Entry::Record { length, message } = entry {
+                    if let Entry::Record { total, message } = entry {
                         self.records_read += 1;
                         self.seen.add(&message);
                         self.see(&Read {
                             position,
-                            length,
+                            total,
                             message,
                             behind,
                         });
@@ -351,7 +342,7 @@ impl<'a> Search<'a> {
         let mut position = from;
         while let Ok(entry) = log.entry(position) {
             self.see_behind(position, entry, log.is_behind_a_fault(position), missed);
-            position.0 += entry.length();
+            position.0 += entry.total();
         }
         position
     }
@@ -364,14 +355,14 @@ impl<'a> Search<'a> {
         missed: &mut Missed,
     ) {
         match entry {
-            Entry::Record { length, message }
-                if Some(position) > missed.last && has_items(&message) =>
+            Entry::Record { total, message }
+                if Some(position) > missed.last && item_count(&message) > 0 =>
             {
                 self.records_read += 1;
                 missed.first.get_or_insert(position);
                 self.see(&Read {
                     position,
-                    length,
+                    total,
                     message,
                     behind,
                 });

@@ -14,7 +14,7 @@ use std::io;
 use std::os::unix::fs::FileExt;
 use std::path::{Path, PathBuf};
 use std::time::{SystemTime, UNIX_EPOCH};
-use swistopal::QueueEntries;
+use swistopal::ENTRY_BYTES;
 
 /// What a rebuild makes.
 const RESULTS: [&str; 2] = ["consumequeue", "index"];
@@ -91,7 +91,7 @@ impl Work {
         let index_length = index_length(&self.plan)? as u64;
         begin_to_sync(&targets.index.file, 0..index_length);
         let queues = &targets.queues.bytes;
-        let region = (self.plan.entries.0 * QueueEntries::ENTRY_BYTES) as usize;
+        let region = (self.plan.sizes.queue_entries * ENTRY_BYTES) as usize;
         let mut written = Vec::new();
         for (number, row) in self.plan.rows.iter().enumerate() {
             let folder = row.queue.folder(&consumequeue)?;

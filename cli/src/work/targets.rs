@@ -9,7 +9,7 @@ use std::fs::File;
 use std::io;
 use std::ops::Range;
 use std::os::unix::fs::FileExt;
-use swistopal::{Answer, Progress, QueueEntries, QueueOffset};
+use swistopal::{Answer, Progress, QueueOffset, ENTRY_BYTES};
 
 /// Slots with fewer others between them are written as one piece.
 const NEAR: u64 = 64;
@@ -60,11 +60,11 @@ impl Targets {
     /// The same for the entries of queues.
     pub fn bring_entries(
         &mut self,
-        entries: QueueEntries,
+        plan: &Plan,
         before: &Progress,
         after: &Progress,
     ) -> io::Result<()> {
-        let region = entries.0 * QueueEntries::ENTRY_BYTES;
+        let region = plan.sizes.queue_entries * ENTRY_BYTES;
         let rows = before.counts.iter().zip(&after.counts).enumerate();
         for (number, (old, new)) in rows.filter(|(_, (old, new))| old < new) {
             let start = number as u64 * region;
@@ -76,7 +76,7 @@ impl Targets {
 
     /// Brings queues without an entry to their start.
     pub fn fill(&mut self, plan: &Plan, progress: &mut Progress) {
-        let region = (plan.entries.0 * QueueEntries::ENTRY_BYTES) as usize;
+        let region = (plan.sizes.queue_entries * ENTRY_BYTES) as usize;
         for (number, row) in plan.rows.iter().enumerate() {
             if progress.counts[number] < row.start {
                 progress.counts[number] = row.start;
@@ -128,16 +128,16 @@ pub fn filled(start: QueueOffset) -> Vec<u8> {
 }
 
 pub fn entry_bytes(count: QueueOffset) -> u64 {
-    count.0 * QueueEntries::ENTRY_BYTES
+    count.0 * ENTRY_BYTES
 }
 
 /// There is room for all queues that a plan may have.
 pub fn queues_length(plan: &Plan) -> Result<usize, Failure> {
-    let length = plan.entries.buffer_length(MOST_QUEUES as u64);
+    let length = plan.sizes.queues_len(MOST_QUEUES as u64);
     length.map_or_else(|| fault(Answer::BadSizes.to_string()), Ok)
 }
 
 pub fn index_length(plan: &Plan) -> Result<usize, Failure> {
-    let length = plan.index.buffer_length();
+    let length = plan.sizes.index_len();
     length.map_or_else(|| fault(Answer::BadSizes.to_string()), Ok)
 }

@@ -9,7 +9,8 @@ use Rattle.units.specs.Answers.{numberOf}
 use Rattle.java_hash.specs.Hash.{Signed, plus, minus, signed, hashOf, tagCode, indexHash, absolute}
 use Rattle.record.specs.declared.Fields.{Fields}
 use Rattle.commit_log.specs.declared.Geometry.{Geometry}
-use Rattle.commit_log.specs.Log.{Outcome, outcome, appended}
+use Rattle.record_writer.specs.Encode.{RecordParts, partsOf}
+use Rattle.commit_log.specs.Log.{AppendOutcome, appendOutcome, appended}
 use Rattle.index_file.specs.Index.{filledSlots, usedCount, slotValue, secondsOf}
 use Rattle.index_file.specs.Items.{itemsAnswer, putAll}
 use Rattle.dispatch_request.specs.Request.{itemKeys, itemHashes}
@@ -46,17 +47,19 @@ fields =
       «queue_offset» = record { 0 = 0 };
       «system_flag» = 0;
       «born_time» = 0;
-      «born_host» = 0;
       «store_time» = 10000;
-      «store_host» = 0;
       «reconsume_times» = 0;
       «prepared_offset» = 0;
     }
 
+-- no body, topic T, and hosts of zeros
+abbrev pub parts : List ℕ → RecordParts
+parts properties = partsOf (replicate 8 0) (replicate 8 0) [] (84 ∷ []) properties
+
 -- the answer's number and the write position, of topic T and these properties: 92 bytes and one for each of theirs
 abbrev pub appendedAt924 : List ℕ → List ℕ
 appendedAt924 properties =
-    let made = appended (replicate 2048 0) (record { «segment_size» = 1024; «first_position» = 0 }) (record { 0 = 924 }) fields [] (84 ∷ []) properties .made in
+    let made = appended (replicate 2048 0) (record { «segment_size» = 1024; «first_position» = record { 0 = 0 } }) (record { 0 = 924 }) fields (parts properties) .made in
     numberOf (made .answer) ∷ made .«write_position» .0 ∷ []
 
 -- ---- an index of 2 slots and 4 items
@@ -82,10 +85,10 @@ keys bytes = 75 ∷ 69 ∷ 89 ∷ 83 ∷ 1 ∷ bytes
 -- ---- dispatch: a segment of 1,024 bytes, queue 0 of topic T with two entries, and that index
 
 abbrev pub geometry : Geometry
-geometry = record { «segment_size» = 1024; «first_position» = 0 }
+geometry = record { «segment_size» = 1024; «first_position» = record { 0 = 0 } }
 
 -- the log and its readable end after a record of topic T, this queue offset and these properties
-abbrev pub sent : ℕ → List ℕ → Outcome → Outcome
+abbrev pub sent : ℕ → List ℕ → AppendOutcome → AppendOutcome
 sent offset properties o =
     appended (o .log) geometry (o .made .«write_position»)
     (record {
@@ -95,30 +98,28 @@ sent offset properties o =
       «queue_offset» = record { 0 = offset };
       «system_flag» = 0;
       «born_time» = 0;
-      «born_host» = 0;
       «store_time» = 10000;
-      «store_host» = 0;
       «reconsume_times» = 0;
       «prepared_offset» = 0;
-    }) [] (84 ∷ []) properties
+    }) (parts properties)
 
-abbrev pub empty : Outcome
-empty = outcome Done (record { 0 = 0 }) (replicate 1024 0)
+abbrev pub empty : AppendOutcome
+empty = appendOutcome Done (record { 0 = 0 }) (replicate 1024 0)
 
 -- KEYS `a b c`, and then KEYS `d`; KEYS `a  a`
-abbrev pub threeAndOne : Outcome
+abbrev pub threeAndOne : AppendOutcome
 threeAndOne = sent 1 (keys (100 ∷ [])) (sent 0 (keys (97 ∷ 32 ∷ 98 ∷ 32 ∷ 99 ∷ [])) empty)
 
-abbrev pub twice : Outcome
+abbrev pub twice : AppendOutcome
 twice = sent 0 (keys (97 ∷ 32 ∷ 32 ∷ 97 ∷ [])) empty
 
 -- a call with this budget from the start
-abbrev pub ran : ℕ → Outcome → Ran State
+abbrev pub ran : ℕ → AppendOutcome → Ran State
 ran budget o =
     call dispatcher
     (record {
       fixed = record {
-        sizes = record { geometry = geometry; entries = 2; index = record { «slot_count» = 2; «item_count» = 4 } };
+        sizes = record { geometry = geometry; «queue_entries» = 2; index = record { «slot_count» = 2; «item_count» = 4 } };
         directory = 9 ∷ 0 ∷ 1 ∷ 0 ∷ 0 ∷ 0 ∷ 0 ∷ 0 ∷ 84 ∷ [];
       };
       view = record { log = o .log; end = o .made .«write_position» };
@@ -127,7 +128,7 @@ ran budget o =
     (record { progress = record { position = record { 0 = 0 } }; counts = replicate 16 0; queues = replicate 40 0; index = fresh })
 
 -- the answer's number, the steps, the position, the first queue's count and the used count after it
-abbrev pub dispatched : ℕ → Outcome → List ℕ
+abbrev pub dispatched : ℕ → AppendOutcome → List ℕ
 dispatched budget o =
     let r = ran budget o in
     numberOf (r .answer) ∷ r .steps ∷ positionOf (r .state) ∷ getD (r .state .counts) 0 0 ∷ usedCount (r .state .index) ∷ []

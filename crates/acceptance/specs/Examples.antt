@@ -1,4 +1,4 @@
--- Worked examples of readings on which careful readers differ (docs/DECISIONS.md, "Readings"), as data like the bench's. Assumes nothing.
+-- Worked examples of readings on which careful readers differ (docs/DECISIONS.md), as data like the bench's. Assumes nothing.
 use Prim.Native.Nat.{ℕ, zero, suc, _+_}
 use mathlib.Core.Path.{_≡_}
 use mathlib.Core.List.{List, [], _∷_, _++_, map}
@@ -7,13 +7,13 @@ use Rattle.codec.specs.Bytes.{little, bytesOf}
 use Rattle.java_hash.specs.Hash.{indexHash}
 use Rattle.properties.specs.declared.Found.{Found}
 use Rattle.properties.specs.declared.Found.the-variants.{Absent, One, Many}
-use Rattle.properties.specs.Finder.{keysName, finder, valueOf}
+use Rattle.properties.specs.Finder.{keysName, finder, foundBytes}
 use Rattle.properties.specs.Keys.{keyPlaces}
-use Rattle.directory.specs.declared.Listing.{Listing}
-use Rattle.directory.specs.declared.Listing.the-variants.{Refused, Rows}
+use Rattle.directory.specs.declared.RowCount.{RowCount}
+use Rattle.directory.specs.declared.RowCount.the-variants.{Refused, Rows}
 use Rattle.directory.specs.declared.Located.{Located}
 use Rattle.directory.specs.declared.Located.the-variants.{Unlisted, Row as RowNumber}
-use Rattle.directory.specs.Directory.{listing, rowOf}
+use Rattle.directory.specs.Directory.{rowCount, rowOf}
 use Rattle.acceptance.specs.Bench.{Row, keys}
 
 -- what is found: absent 0, one 1, more than one 2, then the place and the length
@@ -26,7 +26,7 @@ abbrev pub keysFound : List ℕ → List ℕ
 keysFound properties = shownFound (finder keysName properties)
 
 abbrev pub keysIn : List ℕ → List ℕ
-keysIn properties = length (keyPlaces (valueOf (finder keysName properties) properties)) ∷ []
+keysIn properties = length (keyPlaces (foundBytes (finder keysName properties) properties)) ∷ []
 
 unfoldable pub property-examples : List Row
 property-examples =
@@ -59,7 +59,7 @@ hash-examples =
     ∷ []
 
 -- a directory: refused 0; else 1 and the number of rows
-abbrev pub shownListing : Listing → List ℕ
+abbrev pub shownListing : RowCount → List ℕ
 shownListing Refused = 0 ∷ []
 shownListing (Rows n) = 1 ∷ n ∷ []
 
@@ -67,8 +67,8 @@ abbrev pub shownRow : Located → List ℕ
 shownRow Unlisted = 0 ∷ []
 shownRow (RowNumber i) = 1 ∷ i ∷ []
 
-abbrev pub judged : List ℕ → List ℕ
-judged directory = shownListing (listing directory)
+abbrev pub shownRows : List ℕ → List ℕ
+shownRows directory = shownListing (rowCount directory)
 
 -- a row of this kind, id and topic
 abbrev pub row : ℕ → ℕ → List ℕ → List ℕ
@@ -82,22 +82,22 @@ rows (suc n) = row 1 n (84 ∷ []) ++ rows n
 unfoldable pub directory-examples : List Row
 directory-examples =
     -- an empty buffer; no topic; topics of 127 and 128 bytes; a byte left over
-    record { given = judged []; wanted = 0 ∷ [] }
-    ∷ record { given = judged (row 1 0 []); wanted = 0 ∷ [] }
-    ∷ record { given = judged (row 1 0 (replicate 127 84)); wanted = 1 ∷ 1 ∷ [] }
-    ∷ record { given = judged (row 1 0 (replicate 128 84)); wanted = 0 ∷ [] }
-    ∷ record { given = judged (row 1 0 (84 ∷ []) ++ 9 ∷ []); wanted = 0 ∷ [] }
+    record { given = shownRows []; wanted = 0 ∷ [] }
+    ∷ record { given = shownRows (row 1 0 []); wanted = 0 ∷ [] }
+    ∷ record { given = shownRows (row 1 0 (replicate 127 84)); wanted = 1 ∷ 1 ∷ [] }
+    ∷ record { given = shownRows (row 1 0 (replicate 128 84)); wanted = 0 ∷ [] }
+    ∷ record { given = shownRows (row 1 0 (84 ∷ []) ++ 9 ∷ []); wanted = 0 ∷ [] }
     -- 16 rows and 17
-    ∷ record { given = judged (rows 16); wanted = 1 ∷ 16 ∷ [] }
-    ∷ record { given = judged (rows 17); wanted = 0 ∷ [] }
+    ∷ record { given = shownRows (rows 16); wanted = 1 ∷ 16 ∷ [] }
+    ∷ record { given = shownRows (rows 17); wanted = 0 ∷ [] }
     -- ids 2^31 − 1 and 2^31; kinds 2 and 256
-    ∷ record { given = judged (row 1 2147483647 (84 ∷ [])); wanted = 1 ∷ 1 ∷ [] }
-    ∷ record { given = judged (row 1 2147483648 (84 ∷ [])); wanted = 0 ∷ [] }
-    ∷ record { given = judged (row 2 0 (84 ∷ [])); wanted = 0 ∷ [] }
-    ∷ record { given = judged (row 256 0 (84 ∷ [])); wanted = 0 ∷ [] }
+    ∷ record { given = shownRows (row 1 2147483647 (84 ∷ [])); wanted = 1 ∷ 1 ∷ [] }
+    ∷ record { given = shownRows (row 1 2147483648 (84 ∷ [])); wanted = 0 ∷ [] }
+    ∷ record { given = shownRows (row 2 0 (84 ∷ [])); wanted = 0 ∷ [] }
+    ∷ record { given = shownRows (row 256 0 (84 ∷ [])); wanted = 0 ∷ [] }
     -- the same topic with another id, and the same id with another topic; the same twice, a row between
-    ∷ record { given = judged (row 1 0 (84 ∷ []) ++ row 1 1 (84 ∷ []) ++ row 1 0 (85 ∷ [])); wanted = 1 ∷ 3 ∷ [] }
-    ∷ record { given = judged (row 1 0 (84 ∷ []) ++ row 1 1 (84 ∷ []) ++ row 1 0 (84 ∷ [])); wanted = 0 ∷ [] }
+    ∷ record { given = shownRows (row 1 0 (84 ∷ []) ++ row 1 1 (84 ∷ []) ++ row 1 0 (85 ∷ [])); wanted = 1 ∷ 3 ∷ [] }
+    ∷ record { given = shownRows (row 1 0 (84 ∷ []) ++ row 1 1 (84 ∷ []) ++ row 1 0 (84 ∷ [])); wanted = 0 ∷ [] }
     -- rows are numbered from 0
     ∷ record { given = shownRow (rowOf (84 ∷ []) 1 (row 1 0 (84 ∷ []) ++ row 1 1 (84 ∷ []))); wanted = 1 ∷ 1 ∷ [] }
     ∷ record { given = shownRow (rowOf (85 ∷ []) 1 (row 1 0 (84 ∷ []) ++ row 1 1 (84 ∷ []))); wanted = 0 ∷ [] }

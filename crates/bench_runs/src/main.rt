@@ -14,13 +14,15 @@ use units::QueueOffset;
 
 const GEOMETRY: Geometry = Geometry {
     segment_size: 1024,
-    first_position: 0,
+    first_position: LogPosition(0),
 };
 
 const INDEX: IndexSizes = IndexSizes {
     slot_count: 2,
     item_count: 4,
 };
+
+const HOST: [u8; 8] = [0; 8];
 
 // The used count, and the second item's link.
 const USED: usize = 36;
@@ -44,7 +46,7 @@ fn append(
     log: &mut [u8; 1024],
     end: LogPosition,
     offset: u64,
-    system_flag: u32,
+    system_flag: u64,
     store_time: u64,
 ) -> LogPosition {
     let fields = Fields {
@@ -54,13 +56,21 @@ fn append(
         queue_offset: QueueOffset(offset),
         system_flag,
         born_time: 0,
-        born_host: 0,
         store_time,
-        store_host: 0,
         reconsume_times: 0,
         prepared_offset: 0,
     };
-    let appended = commit_log::append(log, GEOMETRY, end, fields, b"", b"T", b"UNIQ_KEY\x01k");
+    let appended = commit_log::append(
+        log,
+        GEOMETRY,
+        end,
+        fields,
+        &HOST,
+        &HOST,
+        b"",
+        b"T",
+        b"UNIQ_KEY\x01k",
+    );
     let behind = appended.write_position;
     behind
 }
@@ -75,7 +85,7 @@ fn file(
     let mut queues = [0u8; 40];
     let sizes = Sizes {
         geometry: GEOMETRY,
-        entries: 2,
+        queue_entries: 2,
         index: INDEX,
     };
     let start = Progress {
@@ -118,14 +128,14 @@ fn link_second(index: &mut [u8; 128], item: u32) {
     codec::put_u32(index, LINK, item);
 }
 
-fn one_record(system_flag: u32) {
+fn one_record(system_flag: u64) {
     let mut log = [0u8; 1024];
     let mut counts = [0u64; 16];
     let mut index = [0u8; 128];
     let end = append(&mut log, LogPosition(0), 0, system_flag, 10000);
     let made = file(&log, end, &mut counts, &mut index);
     let answer = made.answer;
-    print(system_flag as u64, b" ");
+    print(system_flag, b" ");
     print(answer.number() as u64, b" ");
     print(made.steps, b" ");
     print(counts[0], b" ");

@@ -1,3 +1,3 @@
-pub mod Doors
+pub mod QueueDoor
 pub mod Reading
 pub mod Entering

@@ -11,11 +11,11 @@ use borrow.Author.Tests.{eqb-true, eq-eqb}
 use Rattle.codec.specs.Bytes.{same}
 use Rattle.codec.specs.Choice.{pick}
 use Rattle.codec.proofs.Equal.{same-refl, same-true}
-use Rattle.directory.specs.declared.Listing.the-variants.{Refused, Rows}
+use Rattle.directory.specs.declared.RowCount.the-variants.{Refused, Rows}
 use Rattle.directory.specs.declared.Located.{Located}
 use Rattle.directory.specs.declared.Located.the-variants.{Unlisted, Row}
 use Rattle.directory.specs.Claims.{Fits, ListingRows, ListingRefused, RowFound, RowNone, OneRow, RowsDiffer}
-use Rattle.directory.specs.Directory.{Queue, rowLength, rowsWithin, row, names, rowFrom, listed, distinct, queues, counted, listing, rowOf}
+use Rattle.directory.specs.Directory.{Queue, rowLength, rowsWithin, row, names, rowFrom, listed, distinct, queues, counted, rowCount, rowOf}
 use Rattle.codec.proofs.Choices.{both}
 use Rattle.directory.proofs.Chain.{nothing, rows-past, split}
 use Rattle.directory.proofs.Judged.{sound, not-refused}
@@ -33,7 +33,7 @@ rows-few (suc n) (b ∷ l) qs e =
     rw (s .all) (omega arith)
 
 pub listing-rows : ListingRows
-unfolding listing counted
+unfolding rowCount counted
 listing-rows d n e = go (queues d) e (λ h. rows-few 16 d (queues d) (sound d h .made))
   where
     go : (qs : List Queue) → counted qs ≡ Rows n → (0 < length qs → length qs ≤ 16) → (length qs ≡ n) × (0 < n) × (n ≤ 16)
@@ -44,7 +44,7 @@ listing-rows d n e = go (queues d) e (λ h. rows-few 16 d (queues d) (sound d h 
         (m, omega arith, omega arith)
 
 pub listing-refused : ListingRefused
-unfolding listing counted
+unfolding rowCount counted
 listing-refused d e = go (queues d) e
   where
     go : (qs : List Queue) → counted qs ≡ Refused → qs ≡ []

@@ -11,8 +11,8 @@ use lib.Seq.{drop-drop}
 use Rattle.codec.specs.Bytes.{little, field, part}
 use Rattle.codec.specs.Choice.{pick}
 use Rattle.codec.proofs.Parts.{part-drop}
-use Rattle.directory.specs.declared.Listing.{Listing}
-use Rattle.directory.specs.declared.Listing.the-variants.{Refused, Rows}
+use Rattle.directory.specs.declared.RowCount.{RowCount}
+use Rattle.directory.specs.declared.RowCount.the-variants.{Refused, Rows}
 use Rattle.directory.specs.declared.Located.the-variants.{Unlisted, Row}
 use Rattle.directory.specs.Directory.{Queue, rowLength, rowQueue, rowOk, before, rowsWithin, names, rowFrom, listed, distinct}
 use Rattle.directory.specs.Inner.{rowSize, madeOf, rowsOf, InRows, Next, made}
@@ -90,7 +90,7 @@ module _ (l : List ℕ) (at : ℕ) (g : Comparing l at) where
 -- ---- counting the rows
 
 -- the number of rows, k before these
-unfoldable pub madeAfter : ℕ → Option (List Queue) → Listing
+unfoldable pub madeAfter : ℕ → Option (List Queue) → RowCount
 madeAfter k none = Refused
 madeAfter k (some qs) = Rows (k + length qs)
 

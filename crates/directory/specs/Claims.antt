@@ -4,9 +4,9 @@ use mathlib.Core.Path.{_≡_}
 use mathlib.Core.Bool.{true}
 use mathlib.Core.List.{List, []}
 use lib.ListN.{length}
-use Rattle.directory.specs.declared.Listing.the-variants.{Refused, Rows}
+use Rattle.directory.specs.declared.RowCount.the-variants.{Refused, Rows}
 use Rattle.directory.specs.declared.Located.the-variants.{Unlisted, Row}
-use Rattle.directory.specs.Directory.{Queue, names, row, queues, listing, rowOf}
+use Rattle.directory.specs.Directory.{Queue, names, row, queues, rowCount, rowOf}
 
 -- row i is there, and has this topic and id
 pub record Fits (topic : List ℕ) (id : ℕ) (qs : List Queue) (i : ℕ) : Type 0 where
@@ -15,10 +15,10 @@ pub record Fits (topic : List ℕ) (id : ℕ) (qs : List Queue) (i : ℕ) : Type
 
 -- "Queues: 1 to 16": a directory that is not refused has as many rows as it says
 abbrev pub ListingRows : Type 0
-ListingRows = (d : List ℕ) (n : ℕ) → listing d ≡ Rows n → (length (queues d) ≡ n) × (0 < n) × (n ≤ 16)
+ListingRows = (d : List ℕ) (n : ℕ) → rowCount d ≡ Rows n → (length (queues d) ≡ n) × (0 < n) × (n ≤ 16)
 
 abbrev pub ListingRefused : Type 0
-ListingRefused = (d : List ℕ) → listing d ≡ Refused → queues d ≡ []
+ListingRefused = (d : List ℕ) → rowCount d ≡ Refused → queues d ≡ []
 
 -- the row that is found fits
 abbrev pub RowFound : Type 0

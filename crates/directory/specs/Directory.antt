@@ -7,8 +7,8 @@ use lib.Dec.{eqb, leb, ltb}
 use lib.ListN.{length, drop, getD}
 use Rattle.codec.specs.Bytes.{little, field, part, same}
 use Rattle.codec.specs.Choice.{pick}
-use Rattle.directory.specs.declared.Listing.{Listing}
-use Rattle.directory.specs.declared.Listing.the-variants.{Refused, Rows}
+use Rattle.directory.specs.declared.RowCount.{RowCount}
+use Rattle.directory.specs.declared.RowCount.the-variants.{Refused, Rows}
 use Rattle.directory.specs.declared.Located.{Located}
 use Rattle.directory.specs.declared.Located.the-variants.{Unlisted, Row}
 
@@ -75,21 +75,21 @@ distinct [] = true
 distinct (q ∷ qs) = not (listed (rowFrom 0 (q .topic) (q .id) qs)) && distinct qs
 
 -- the listed queues, by row; none where the directory is bad
-unfoldable pub judged : Option (List Queue) → List Queue
-judged none = []
-judged (some qs) = pick (distinct qs) qs []
+unfoldable pub distinctRows : Option (List Queue) → List Queue
+distinctRows none = []
+distinctRows (some qs) = pick (distinct qs) qs []
 
 -- "Queues: 1 to 16"
 unfoldable pub queues : List ℕ → List Queue
-queues directory = judged (rowsWithin 16 directory)
+queues directory = distinctRows (rowsWithin 16 directory)
 
 -- "3: directory bad or not 1 to 16 rows"
-unfoldable pub counted : List Queue → Listing
+unfoldable pub counted : List Queue → RowCount
 counted [] = Refused
 counted (q ∷ qs) = Rows (length (q ∷ qs))
 
-unfoldable pub listing : List ℕ → Listing
-listing directory = counted (queues directory)
+unfoldable pub rowCount : List ℕ → RowCount
+rowCount directory = counted (queues directory)
 
 -- "Row i owns region i of the queue buffer": the row of a topic and id
 unfoldable pub rowOf : List ℕ → ℕ → List ℕ → Located

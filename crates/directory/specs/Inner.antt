@@ -5,8 +5,8 @@ use mathlib.Core.List.{List, [], _∷_}
 use mathlib.Core.Option.{Option, none, some}
 use lib.ListN.{length, drop}
 use Rattle.codec.specs.Choice.{pick}
-use Rattle.directory.specs.declared.Listing.{Listing}
-use Rattle.directory.specs.declared.Listing.the-variants.{Refused, Rows}
+use Rattle.directory.specs.declared.RowCount.{RowCount}
+use Rattle.directory.specs.declared.RowCount.the-variants.{Refused, Rows}
 use Rattle.directory.specs.Directory.{Queue, rowLength, rowQueue, rowOk, rowsWithin}
 
 -- the length of the row that the bytes begin with; 0 where there is none
@@ -34,6 +34,6 @@ pub record Next (bytes : List ℕ) (at size : ℕ) : Type 0 where
   pub all : rowsOf (drop at bytes) ≡ rowQueue (drop at bytes) ∷ rowsOf (drop (at + size) bytes)
 
 -- the number of rows, no row judged against another
-unfoldable pub made : Option (List Queue) → Listing
+unfoldable pub made : Option (List Queue) → RowCount
 made none = Refused
 made (some qs) = Rows (length qs)

@@ -2,11 +2,11 @@
 ghost use mathlib.Core.Path.{_≡_};
 ghost use Prim.Native.Nat.{_≤_, _<_};
 ghost use lib.ListN.{length, drop};
-ghost use Rattle.directory.specs.Directory.{rowQueue, names, rowsWithin, rowFrom, distinct, queues, listing, rowOf};
+ghost use Rattle.directory.specs.Directory.{rowQueue, names, rowsWithin, rowFrom, distinct, queues, rowCount, rowOf};
 ghost use Rattle.directory.specs.Inner.{rowSize, rowsOf, InRows, Next, made};
 
 // The number of rows, 1 to 16, of a directory that is in order.
-pub enum Listing {
+pub enum RowCount {
     Refused,
     Rows(usize),
 }
@@ -15,6 +15,11 @@ pub enum Listing {
 pub enum Located {
     Unlisted,
     Row(usize),
+}
+
+impl Located {
+    // The number that stands for no row, behind those of all rows.
+    pub const NO_ROW: u64 = 16;
 }
 
 const ROWS: usize = 16;
@@ -41,23 +46,23 @@ fn row_size(dir: &[u8], at: usize) -> usize
 }
 
 // The number of rows that fill the buffer exactly, none judged against another.
-fn count_rows(dir: &[u8]) -> Listing
+fn count_rows(dir: &[u8]) -> RowCount
     ensures { λ r. ⌜ r ≡ made (rowsWithin 16 (now (dir .entry))) ⌝ }
 {
     let mut at: usize = 0;
     let mut rows: usize = 0;
     while at < dir.len() {
         if rows == ROWS {
-            return Listing::Refused;
+            return RowCount::Refused;
         }
         let size = row_size(dir, at);
         if size == 0 {
-            return Listing::Refused;
+            return RowCount::Refused;
         }
         at += size;
         rows += 1;
     }
-    Listing::Rows(rows)
+    RowCount::Rows(rows)
 }
 
 // The length of the row at `at` in a buffer made of rows.
@@ -120,20 +125,20 @@ fn rows_distinct(dir: &[u8]) -> bool
 }
 
 // Whether the directory is in order, and how many rows it has.
-pub fn validate(dir: &[u8]) -> Listing
-    ensures { λ r. ⌜ r ≡ listing (now (dir .entry)) ⌝ }
+pub fn validate(dir: &[u8]) -> RowCount
+    ensures { λ r. ⌜ r ≡ rowCount (now (dir .entry)) ⌝ }
 {
     let counted = count_rows(dir);
-    let Listing::Rows(rows) = counted else {
-        return Listing::Refused;
+    let RowCount::Rows(rows) = counted else {
+        return RowCount::Refused;
     };
     if rows == 0 {
-        return Listing::Refused;
+        return RowCount::Refused;
     }
     if !rows_distinct(dir) {
-        return Listing::Refused;
+        return RowCount::Refused;
     }
-    Listing::Rows(rows)
+    RowCount::Rows(rows)
 }
 
 // The row of a topic and id, in a directory that is in order.

@@ -1,2 +1,2 @@
-pub mod Doors
+pub mod DispatchDoor
 pub mod Running

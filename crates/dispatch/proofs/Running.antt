@@ -13,8 +13,8 @@ use Rattle.machine.proofs.Steps.{walk-zero, walk-add, run-spent, run-stopped, r
 use Rattle.dispatch_request.specs.Request.{View, Stands, stop, blank, request}
 use Rattle.dispatch_request.proofs.Standing.{hashes-few}
 use Rattle.dispatch_step.specs.Step.{Fixed, State, stateOf, stepOf, standsHere}
-use Rattle.dispatch_step.specs.Door.{Sound}
-use Rattle.dispatch_step.proofs.Going.{Going, going-start, going-far}
+use Rattle.dispatch_step.specs.Door.{Admitted}
+use Rattle.dispatch_step.proofs.StepKeeps.{Going, going-start, going-far}
 use Rattle.dispatch_ahead.specs.declared.Ended.the-variants as ends
 use Rattle.dispatch_ahead.specs.declared.Advanced.{Advanced}
 use Rattle.dispatch_ahead.specs.Ahead.{hashesOf, Ends, Advances}
@@ -88,7 +88,7 @@ module _ (f : Fixed) (v : View) where
     always-ended m e = omega (arith, h .long e, few (stateOf (r .call .progress) counts queues index) _ refl)
 
     -- what is left finds all in order
-    pub rest-sound : Sound f v s → r .ended ≡ false → Sound f v (stateOf (r .call .progress) counts queues index)
+    pub rest-sound : Admitted f v s → r .ended ≡ false → Admitted f v (stateOf (r .call .progress) counts queues index)
     rest-sound k e = going-far f v s b s 0 (going-start f v s b k) (r .call .steps) (h .walked e) (omega (arith, h .under e)) .sound
 
     module _ (e : r .ended ≡ false) {w : Ran State} (m : w ≡ run (stepOf f v) (b - r .call .steps) (stateOf (r .call .progress) counts queues index)) where

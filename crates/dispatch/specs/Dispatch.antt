@@ -4,10 +4,10 @@ use mathlib.Core.Bool.{Bool, true, false, not, _&&_, _||_}
 use mathlib.Core.List.{List}
 use lib.ListN.{length}
 use Rattle.codec.specs.Choice.{pick}
-use Rattle.units.specs.declared.Answer.the-variants.{BadSizes, BadPosition, BadDirectory, BadIndexHeader}
+use Rattle.units.specs.declared.Answer.the-variants.{BadSizes, BadPosition, BadDirectory, BadHeader}
 use Rattle.units.specs.declared.LogPosition.{LogPosition}
-use Rattle.directory.specs.declared.Listing.{Listing}
-use Rattle.directory.specs.declared.Listing.the-variants.{Refused, Rows}
+use Rattle.directory.specs.declared.RowCount.{RowCount}
+use Rattle.directory.specs.declared.RowCount.the-variants.{Refused, Rows}
 use Rattle.commit_log.specs.Log.{geometryOk, outside}
 use Rattle.consume_queue.specs.Queue.{entriesOk, queueRows, countsOk}
 use Rattle.index_file.specs.Index.{sizesOk, headerSound}
@@ -24,24 +24,24 @@ use Rattle.dispatch.specs.declared.Dispatched.{Dispatched}
 -- 1: "S, B, R, K or N breaks its limit, or log or index has another length"
 unfoldable pub sizesFit : Sizes → ℕ → ℕ → Bool
 sizesFit z log index =
-    geometryOk (z .geometry) log && entriesOk (z .entries) && sizesOk (z .index .«slot_count») (z .index .«item_count») index
+    geometryOk (z .geometry) log && entriesOk (z .«queue_entries») && sizesOk (z .index .«slot_count») (z .index .«item_count») index
 
 -- 3: "directory bad or not 1 to 16 rows, or queue buffer not rows × R × 20"
-unfoldable pub isRefused : Listing → Bool
+unfoldable pub isRefused : RowCount → Bool
 isRefused Refused = true
 isRefused (Rows n) = false
 
 -- 2: "position, readable end or entry count is bad"
 unfoldable pub progressBad : Sizes → ℕ → Progress → LogPosition → List ℕ → Bool
-progressBad z log progress end counts = outside (z .geometry) log (progress .position) end || not (countsOk 16 (z .entries) counts)
+progressBad z log progress end counts = outside (z .geometry) log (progress .position) end || not (countsOk 16 (z .«queue_entries») counts)
 
 -- "dispatch 1, 3, 2, 4"
 unfoldable pub doorOf : Fixed → View → State → Door
 doorOf f v s =
     pick (not (sizesFit (f .sizes) (length (v .log)) (length (s .index)))) (refused BadSizes)
-    (pick (isRefused (queueRows (f .directory) (f .sizes .entries) (length (s .queues)))) (refused BadDirectory)
+    (pick (isRefused (queueRows (f .directory) (f .sizes .«queue_entries») (length (s .queues)))) (refused BadDirectory)
     (pick (progressBad (f .sizes) (length (v .log)) (s .progress) (v .end) (s .counts)) (refused BadPosition)
-    (pick (not (headerSound (f .sizes .index .«item_count») (s .index))) (refused BadIndexHeader) accepted)))
+    (pick (not (headerSound (f .sizes .index .«item_count») (s .index))) (refused BadHeader) accepted)))
 
 -- ---- the machine
 

@@ -7,10 +7,10 @@ ghost use Rattle.machine.specs.Steps.{run};
 ghost use Rattle.machine.specs.Calls.{call};
 ghost use Rattle.dispatch_request.specs.Request.{viewOf};
 ghost use Rattle.dispatch_step.specs.Step.{fixedOf, stateOf, stepOf};
-ghost use Rattle.dispatch_step.specs.Door.{Sound};
+ghost use Rattle.dispatch_step.specs.Door.{Admitted};
 ghost use Rattle.dispatch.specs.Dispatch.{sizesFit, progressBad, dispatcher, callOf, ranOf};
 ghost use Rattle.dispatch.specs.Inner.{Runs};
-use directory::Listing;
+use directory::RowCount;
 use dispatch_ahead::Ended;
 use dispatch_step::Progress;
 use dispatch_step::Sizes;
@@ -56,10 +56,10 @@ fn run_steps(
     budget: u64,
     list: &mut [u32],
 ) -> Ran
-    requires { ⌜ Sound (fixedOf sizes (now directory)) (viewOf (now log) «readable_end») (stateOf progress (now counts) (now queues) (now index)) × (0 < length (now list)) × (length (now list) ≤ 16385) ⌝ }
+    requires { ⌜ Admitted (fixedOf sizes (now directory)) (viewOf (now log) «readable_end») (stateOf progress (now counts) (now queues) (now index)) × (0 < length (now list)) × (length (now list) ≤ 16385) ⌝ }
     ensures { λ r. ⌜ Runs (fixedOf sizes (now (directory .entry))) (viewOf (now (log .entry)) «readable_end») budget (length (now (list .entry))) (stateOf progress (now (counts .entry)) (now (queues .entry)) (now (index .entry))) r (now (counts .exit)) (now (queues .exit)) (now (index .exit)) ⌝ }
 {
-    let mut requests = [0u64; 112];
+    let mut requests = [0u64; dispatch_ahead::REQUESTS];
     let mut now = progress;
     let mut steps: u64 = 0;
     while steps < budget {
@@ -118,7 +118,7 @@ fn run_long(
     index: &mut [u8],
     budget: u64,
 ) -> Dispatched
-    requires { ⌜ Sound (fixedOf sizes (now directory)) (viewOf (now log) «readable_end») (stateOf progress (now counts) (now queues) (now index)) ⌝ }
+    requires { ⌜ Admitted (fixedOf sizes (now directory)) (viewOf (now log) «readable_end») (stateOf progress (now counts) (now queues) (now index)) ⌝ }
     ensures { λ r. ⌜ ranOf r (now (counts .exit)) (now (queues .exit)) (now (index .exit)) ≡ run (stepOf (fixedOf sizes (now (directory .entry))) (viewOf (now (log .entry)) «readable_end»)) budget (stateOf progress (now (counts .entry)) (now (queues .entry)) (now (index .entry))) ⌝ }
 {
     let mut list = [0u32; 16385];
@@ -164,7 +164,7 @@ fn run_call(
     index: &mut [u8],
     budget: u64,
 ) -> Dispatched
-    requires { ⌜ Sound (fixedOf sizes (now directory)) (viewOf (now log) «readable_end») (stateOf progress (now counts) (now queues) (now index)) ⌝ }
+    requires { ⌜ Admitted (fixedOf sizes (now directory)) (viewOf (now log) «readable_end») (stateOf progress (now counts) (now queues) (now index)) ⌝ }
     ensures { λ r. ⌜ ranOf r (now (counts .exit)) (now (queues .exit)) (now (index .exit)) ≡ run (stepOf (fixedOf sizes (now (directory .entry))) (viewOf (now (log .entry)) «readable_end»)) budget (stateOf progress (now (counts .entry)) (now (queues .entry)) (now (index .entry))) ⌝ }
 {
     if budget == 0 {
@@ -210,7 +210,7 @@ fn sizes_fit(sizes: Sizes, log: usize, index: usize) -> bool
     ensures { λ r. ⌜ r ≡ sizesFit sizes log index ⌝ }
 {
     commit_log::geometry_ok(sizes.geometry, log as u64)
-        & consume_queue::entries_ok(sizes.entries)
+        & consume_queue::entries_ok(sizes.queue_entries)
         & index_file::sizes_ok(sizes.index, index)
 }
 
@@ -227,9 +227,9 @@ fn progress_bad(
 {
     let p = progress.position.0;
     let e = readable_end.0;
-    let first = sizes.geometry.first_position;
+    let first = sizes.geometry.first_position.0;
     let outside = (p < first) | (e < p) | (first + (log as u64) < e);
-    outside | !consume_queue::counts_ok(counts, sizes.entries)
+    outside | !consume_queue::counts_ok(counts, sizes.queue_entries)
 }
 
 // A call that is refused at the door.
@@ -260,15 +260,15 @@ pub fn dispatch(
     if !sizes_fit(sizes, log.len(), index.len()) {
         return refused(Answer::BadSizes, progress);
     }
-    let listing = consume_queue::queue_rows(directory, sizes.entries, queues.len());
-    if let Listing::Refused = listing {
+    let listing = consume_queue::queue_rows(directory, sizes.queue_entries, queues.len());
+    if let RowCount::Refused = listing {
         return refused(Answer::BadDirectory, progress);
     }
     if progress_bad(sizes, log.len(), progress, readable_end, counts) {
         return refused(Answer::BadPosition, progress);
     }
     if !index_file::header_sound(index, sizes.index.item_count) {
-        return refused(Answer::BadIndexHeader, progress);
+        return refused(Answer::BadHeader, progress);
     }
     run_call(
         log,

@@ -13,7 +13,7 @@ use Rattle.codec.specs.Choice.{pick}
 use Rattle.codec.proofs.Parts.{part-left, length-part}
 use Rattle.units.specs.declared.Answer.{Answer}
 use Rattle.units.specs.declared.LogPosition.{LogPosition}
-use Rattle.index_file.specs.Room.{Sized}
+use Rattle.index_file.specs.Room.{IndexSized}
 use Rattle.index_file.specs.Items.{anyBadSlot}
 use Rattle.index_file.proofs.Items.{checked-room, good-slots-stay, good-slots-part}
 use Rattle.machine.specs.Steps.{moved}
@@ -26,17 +26,17 @@ use Rattle.dispatch_step.specs.declared.Filed.{Filed}
 use Rattle.dispatch_step.specs.declared.Filed.the-variants.{Moved, Stopped}
 use Rattle.dispatch_step.specs.Step.{Fixed, State, stateOf, written, filed, movedBy, stepAs, standsHere, stepOf}
 use Rattle.dispatch_step.specs.Filing.{Fileable, Did}
-use Rattle.dispatch_step.specs.Door.{Sound}
+use Rattle.dispatch_step.specs.Door.{Admitted}
 use Rattle.dispatch_step.proofs.Filing.{did-move, did-stop}
 use Rattle.dispatch_step.proofs.Moves.{filed-moved, step-filed}
-use Rattle.dispatch_step.proofs.Going.{Going, going-start, going-step}
+use Rattle.dispatch_step.proofs.StepKeeps.{Going, going-start, going-step}
 use Rattle.dispatch_step.proofs.Fits.{request-fits}
 use Rattle.dispatch_ahead.specs.declared.Batch.{Batch}
 use Rattle.dispatch_ahead.specs.declared.Behind.{Behind}
 use Rattle.dispatch_ahead.specs.declared.Behind.the-variants as behinds
 use Rattle.dispatch_ahead.specs.declared.Ended.the-variants as ends
 use Rattle.dispatch_ahead.specs.declared.Advanced.{Advanced}
-use Rattle.dispatch_ahead.specs.Ahead.{requestAt, standsIn, totalOf, hashesOf, behind, itemsBefore, BehindIs, Batched, passBy, Ends, Advances}
+use Rattle.dispatch_ahead.specs.Ahead.{requestAt, standsIn, standsTotal, hashesOf, behind, itemsBefore, BehindIs, Batched, passBy, Ends, Advances}
 use Rattle.dispatch_ahead.proofs.Reading.{items-grow}
 
 -- ---- the loop
@@ -49,7 +49,7 @@ pub record Advancing (f : Fixed) (v : View) (p : LogPosition) (b : Batch) (list 
   pub going : Going f v s t done most
   pub sound : good ≡ true → anyBadSlot (f .sizes .index .«slot_count») (t .index) (take (b .items) list) ≡ false
 
-pub advancing-start : (f : Fixed) (v : View) (b : Batch) (list : List ℕ) (most : ℕ) (s : State) {good bad : Bool} → Sound f v s
+pub advancing-start : (f : Fixed) (v : View) (b : Batch) (list : List ℕ) (most : ℕ) (s : State) {good bad : Bool} → Admitted f v s
     → bad ≡ anyBadSlot (f .sizes .index .«slot_count») (s .index) (take (b .items) list) → good ≡ not bad
     → Advancing f v (s .progress .position) b list good most s s 0 0
 unfolding behind itemsBefore
@@ -66,7 +66,7 @@ part-front : (n at i : ℕ) (l : List ℕ) → at + n ≤ i → i ≤ length l �
 part-front n at i l h k = sym (part-left n at (take i l) (drop i l) (rw (length-take i l) (omega arith))) ∙ ap (part n at) (take-append-drop i l)
 
 -- slots that were good are good behind a record
-good-kept : (z : Sizes) (q : DispatchRequest) (hs : List ℕ) (s t : State) (l : List ℕ) → Sized (z .index .«slot_count») (z .index .«item_count») (s .index)
+good-kept : (z : Sizes) (q : DispatchRequest) (hs : List ℕ) (s t : State) (l : List ℕ) → IndexSized (z .index .«slot_count») (z .index .«item_count») (s .index)
     → filed z q hs s ≡ moved t → anyBadSlot (z .index .«slot_count») (s .index) l ≡ false → anyBadSlot (z .index .«slot_count») (t .index) l ≡ false
 unfolding written
 good-kept z q hs s t l d e g =
@@ -132,7 +132,7 @@ module _ (f : Fixed) (v : View) (p : LogPosition) (most : ℕ) (b : Batch) (requ
     done-as = rw listed at d
 
     pub turn-on : {now : Progress} → r ≡ Moved now → Advancing f v p b list good most s (stateOf now counts queues index) (first + q .items) (done + 1)
-    unfolding behind totalOf written
+    unfolding behind standsTotal written
     turn-on {now} m =
         let u = stateOf now counts queues index in
         let k = did-move (filed (f .sizes) q hs t) done-as m in
@@ -215,7 +215,7 @@ pub record Underway (f : Fixed) (log : List ℕ) (b : Batch) (requests list : Li
   pub few : done ≤ b .records
   pub queued : length (t .queues) ≡ length (s .queues)
   pub indexed : length (t .index) ≡ length (s .index)
-  pub all : (end : LogPosition) → Batched f (viewOf log end) (s .progress .position) most b requests list → Sound f (viewOf log end) s
+  pub all : (end : LogPosition) → Batched f (viewOf log end) (s .progress .position) most b requests list → Admitted f (viewOf log end) s
       → Advancing f (viewOf log end) (s .progress .position) b list good most s t first done
 
 module _ (f : Fixed) (log : List ℕ) (b : Batch) (requests list : List ℕ) (good : Bool) (most : ℕ) (s : State) where
@@ -224,7 +224,7 @@ module _ (f : Fixed) (log : List ℕ) (b : Batch) (requests list : List ℕ) (go
   underway-start e n =
       record { few = omega arith; queued = refl; indexed = refl; all = λ end h k. advancing-start f (viewOf log end) b list most s k e n }
 
-  pub underway-on : (end : LogPosition) → Batched f (viewOf log end) (s .progress .position) most b requests list → Sound f (viewOf log end) s
+  pub underway-on : (end : LogPosition) → Batched f (viewOf log end) (s .progress .position) most b requests list → Admitted f (viewOf log end) s
       → (t : State) (first done : ℕ) → Underway f log b requests list good most s t first done → done < b .records
       → (q : DispatchRequest) → q ≡ requestAt requests done → (r : Filed) (counts queues index : List ℕ)
       → Did (filed (f .sizes) q (take (first + q .items - first) (drop first list)) t) t r counts queues index → {now : Progress} → r ≡ Moved now
@@ -233,7 +233,7 @@ module _ (f : Fixed) (log : List ℕ) (b : Batch) (requests list : List ℕ) (go
       let a = on end h k in
       record { few = a .few; queued = a .going .queued; indexed = a .going .indexed; all = on }
     where
-      on : (end′ : LogPosition) → Batched f (viewOf log end′) (s .progress .position) most b requests list → Sound f (viewOf log end′) s
+      on : (end′ : LogPosition) → Batched f (viewOf log end′) (s .progress .position) most b requests list → Admitted f (viewOf log end′) s
           → Advancing f (viewOf log end′) (s .progress .position) b list good most s (stateOf now counts queues index) (first + q .items) (done + 1)
       on end′ h′ k′ =
           turn-on f (viewOf log end′) (s .progress .position) most b requests list h′ good s t first done (u .all end′ h′ k′) more q e r counts queues index d m

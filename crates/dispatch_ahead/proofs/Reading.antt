@@ -26,7 +26,7 @@ use Rattle.dispatch_step.specs.Step.{Fixed}
 use Rattle.dispatch_ahead.specs.declared.Batch.{Batch}
 use Rattle.dispatch_ahead.specs.declared.Behind.{Behind}
 use Rattle.dispatch_ahead.specs.declared.Behind.the-variants.{Unread, Stop, Blank, Long}
-use Rattle.dispatch_ahead.specs.Ahead.{requestAt, standsIn, totalOf, hashesOf, behind, itemsBefore, Kept, BehindIs, Batched}
+use Rattle.dispatch_ahead.specs.Ahead.{requestAt, standsIn, standsTotal, hashesOf, behind, itemsBefore, Kept, BehindIs, Batched}
 use Rattle.dispatch_ahead.proofs.Nexts.{next-request, next-long, next-stop, next-blank, in-front}
 
 -- ---- what is kept
@@ -188,7 +188,7 @@ module _ (f : Fixed) (v : View) (p : LogPosition) (most : ℕ) (requests list : 
               }
 
           pub reading-on : records < 16 → records < most → Reading f v p most room requests′ (back items list sub) (record { 0 = at .0 + q .total }) (records + 1) (items + q .items)
-          unfolding behind itemsBefore totalOf
+          unfolding behind itemsBefore standsTotal
           reading-on x y =
               let z = next-below (f .directory) (f .sizes .geometry) v at n e in
               rw (add-one records)

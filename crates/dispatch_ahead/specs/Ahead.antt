@@ -7,7 +7,7 @@ use lib.ListN.{length, getD}
 use Rattle.codec.specs.Bytes.{part}
 use Rattle.codec.specs.Choice.{pick}
 use Rattle.units.specs.declared.LogPosition.{LogPosition}
-use Rattle.machine.specs.Steps.{moved, stopped, walk}
+use Rattle.machine.specs.Steps.{moved, stopped, iterate}
 use Rattle.dispatch_request.specs.declared.DispatchRequest.{DispatchRequest}
 use Rattle.dispatch_request.specs.Request.{View, Stands, stop, blank, request, standsAt}
 use Rattle.dispatch_step.specs.declared.Progress.{Progress}
@@ -40,10 +40,10 @@ requestAt requests n =
 abbrev pub standsIn : Fixed → View → LogPosition → Stands
 standsIn f v p = standsAt (f .directory) (f .sizes .geometry) v p
 
-unfoldable pub totalOf : Stands → ℕ
-totalOf (stop a) = 0
-totalOf (blank n) = 0
-totalOf (request q hs) = q .total
+unfoldable pub standsTotal : Stands → ℕ
+standsTotal (stop a) = 0
+standsTotal (blank n) = 0
+standsTotal (request q hs) = q .total
 
 unfoldable pub hashesOf : Stands → List ℕ
 hashesOf (stop a) = []
@@ -53,7 +53,7 @@ hashesOf (request q hs) = hs
 -- the position behind the first i of them
 unfoldable pub behind : Fixed → View → LogPosition → ℕ → LogPosition
 behind f v p zero = p
-behind f v p (suc i) = record { 0 = behind f v p i .0 + totalOf (standsIn f v (behind f v p i)) }
+behind f v p (suc i) = record { 0 = behind f v p i .0 + standsTotal (standsIn f v (behind f v p i)) }
 
 -- and the number of their items
 unfoldable pub itemsBefore : Fixed → View → LogPosition → ℕ → ℕ
@@ -103,6 +103,6 @@ Ends f v most n steps t ended.Long = n < length (hashesOf (standsIn f v (t .prog
 
 -- so many steps of the rules lead from s to t, and it ends as it says
 pub record Advances (f : Fixed) (v : View) (most n : ℕ) (s : State) (r : Advanced) (t : State) : Type 0 where
-  pub walked : walk (stepOf f v) (r .steps) s ≡ moved t
+  pub walked : iterate (stepOf f v) (r .steps) s ≡ moved t
   pub within : r .steps ≤ most
   pub ends : Ends f v most n (r .steps) t (r .ended)

@@ -7,7 +7,7 @@ ghost use Rattle.commit_log.specs.Door.{GeometryFits, Within};
 ghost use Rattle.dispatch_request.specs.Request.{viewOf};
 ghost use Rattle.dispatch_request.specs.Reading.{Listed};
 ghost use Rattle.dispatch_step.specs.Step.{fixedOf, stateOf};
-ghost use Rattle.dispatch_step.specs.Door.{Sound};
+ghost use Rattle.dispatch_step.specs.Door.{Admitted};
 ghost use Rattle.dispatch_ahead.specs.Ahead.{requestAt, Batched, passBy, Advances};
 ghost use Rattle.dispatch_ahead.specs.declared.Behind.the-variants.{Blank};
 use dispatch_request::DispatchRequest;
@@ -55,6 +55,9 @@ const BATCH: usize = 16;
 // The numbers of a request.
 const REQUEST: usize = 7;
 
+// The numbers of as many requests as are read ahead.
+pub const REQUESTS: usize = 112;
+
 fn bit(b: bool) -> u64
     ensures { λ r. ⌜ r ≡ pick b 1 0 ⌝ }
 {
@@ -77,7 +80,7 @@ fn put_request(requests: &mut [u64], n: usize, request: DispatchRequest)
 }
 
 // Request n, as it was kept.
-fn request_at(requests: &[u64; 112], n: usize) -> DispatchRequest
+fn request_at(requests: &[u64; REQUESTS], n: usize) -> DispatchRequest
     requires { ⌜ n < 16 ⌝ }
     ensures { λ r. ⌜ r ≡ requestAt (now (requests .entry)) n ⌝ }
 {
@@ -112,7 +115,7 @@ fn read_ahead(
     directory: &[u8],
     position: LogPosition,
     most: u64,
-    requests: &mut [u64; 112],
+    requests: &mut [u64; REQUESTS],
     list: &mut [u32],
 ) -> Batch
     requires { ⌜ GeometryFits (sizes .geometry) (length (now log)) × Within (sizes .geometry) (length (now log)) position «readable_end» × Listed (now directory) × (0 < length (now list)) ⌝ }
@@ -188,7 +191,7 @@ fn pass(progress: Progress, steps: usize, behind: Behind) -> Advanced
 }
 
 // Steps from a state on, up to so many: records are read ahead as requests, all their slots are judged, one close behind the other, and the
-// requests are filed one by one. A slot that is good before them stays good.
+// requests are filed one by one. A slot that is good before them stays good. What `requests` and `list` hold afterwards is left open.
 pub fn advance(
     log: &[u8],
     readable_end: LogPosition,
@@ -199,10 +202,10 @@ pub fn advance(
     queues: &mut [u8],
     index: &mut [u8],
     most: u64,
-    requests: &mut [u64; 112],
+    requests: &mut [u64; REQUESTS],
     list: &mut [u32],
 ) -> Advanced
-    requires { ⌜ Sound (fixedOf sizes (now directory)) (viewOf (now log) «readable_end») (stateOf progress (now counts) (now queues) (now index)) × (0 < length (now list)) × (length (now list) ≤ 16385) ⌝ }
+    requires { ⌜ Admitted (fixedOf sizes (now directory)) (viewOf (now log) «readable_end») (stateOf progress (now counts) (now queues) (now index)) × (0 < length (now list)) × (length (now list) ≤ 16385) ⌝ }
     ensures { λ r. ⌜ Advances (fixedOf sizes (now (directory .entry))) (viewOf (now (log .entry)) «readable_end») most (length (now (list .entry))) (stateOf progress (now (counts .entry)) (now (queues .entry)) (now (index .entry))) r (stateOf (r .progress) (now (counts .exit)) (now (queues .exit)) (now (index .exit))) ⌝ }
 {
     let position = progress.position;

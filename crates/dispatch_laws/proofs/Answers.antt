@@ -10,19 +10,19 @@ use Rattle.codec.specs.Bytes.{big, field, part}
 use Rattle.units.specs.declared.LogPosition.{LogPosition}
 use Rattle.units.specs.declared.QueueOffset.{QueueOffset}
 use Rattle.units.specs.declared.Answer.{Answer}
-use Rattle.units.specs.declared.Answer.the-variants.{Done, Unreadable, Damaged}
+use Rattle.units.specs.declared.Answer.the-variants.{Done, NotReadable, Damaged}
 use Rattle.units.specs.Answers.{numberOf}
 use Rattle.record.specs.declared.Record.{Record}
-use Rattle.record.specs.declared.Entry.{Entry}
-use Rattle.record.specs.declared.Entry.the-variants.{Stop, Blank, Message}
-use Rattle.record.specs.Record.{fieldsOf, fieldsSound, textRules, lengthsOf, fitBody, fitTopic, fitProperties, soundAs, judged, recordOf, headOf, headed, entryAt}
+use Rattle.record.specs.declared.LogEntry.{LogEntry}
+use Rattle.record.specs.declared.LogEntry.the-variants.{Stop, Blank, Message}
+use Rattle.record.specs.Record.{isHere, isSound, headOf, headAt, headed, entryAt}
 use Rattle.commit_log.specs.declared.Geometry.{Geometry}
 use Rattle.commit_log.specs.Log.{segmentRest, seen, entryWithin}
 use Rattle.commit_log.proofs.Outcomes.{pick-either}
 use Rattle.consume_queue.specs.Entering.{entryAnswer}
 use Rattle.index_file.specs.Items.{isAhead, isFull, anyBadSlot, itemsAnswer}
 use Rattle.machine.specs.Steps.{Outcome, moved, stopped}
-use Rattle.dispatch_request.specs.Request.{View, Stands, stop, blank as padded, request, standsAs, standsAt}
+use Rattle.dispatch_request.specs.Request.{View, Stands, stop, blank as padded, request, madeOf, standsAs, standsAt}
 use Rattle.dispatch_step.specs.Step.{Fixed, State, positionOf, unless, filed, stepAs, standsHere, stepOf}
 use Rattle.dispatch_laws.specs.Claims.{NeverSpent}
 
@@ -34,7 +34,7 @@ abbrev Ruled : Answer → Type 0
 Ruled a = byRule a ≡ true
 
 -- an entry, what stands in the log, and an outcome that, if they stop, stop so
-abbrev Reads : Entry → Type 0
+abbrev Reads : LogEntry → Type 0
 Reads y = (a : Answer) → y ≡ Stop a → Ruled a
 
 abbrev Halts : Stands → Type 0
@@ -51,8 +51,8 @@ stops b r a e = let same : b ≡ a = cc in subst Ruled same r
 damaged : Reads (Stop Damaged)
 damaged = stops Damaged refl
 
-unreadable : Reads (Stop Unreadable)
-unreadable = stops Unreadable refl
+unreadable : Reads (Stop NotReadable)
+unreadable = stops NotReadable refl
 
 blank : (n : ℕ) → Reads (Blank n)
 blank n a e = absurd (let z : _≡_ {A = ℕ} 0 1 = cc in omega arith)
@@ -60,49 +60,35 @@ blank n a e = absurd (let z : _≡_ {A = ℕ} 0 1 = cc in omega arith)
 message : {m : Record} → Reads (Message m)
 message a e = absurd (let z : _≡_ {A = ℕ} 0 1 = cc in omega arith)
 
-record-reads : (p : LogPosition) (own : List ℕ) → Reads (recordOf p own)
-unfolding recordOf judged lengthsOf fitBody fitTopic fitProperties soundAs
-record-reads p own =
-    let b = field big 4 84 own in
-    let t = field big 1 (88 + b) own in
-    let q = field big 2 (89 + b + t) own in
-    pick-either (λ k. Reads (judged p own k)) (ltb (length own) (91 + b)) _ _ damaged
-    (pick-either (λ k. Reads (judged p own k)) (eqb t 0 || ltb 127 t || ltb (length own) (91 + b + t)) _ _ damaged
-    (pick-either (λ k. Reads (judged p own k)) (ltb 32767 q || not (eqb (91 + b + t + q) (length own))) _ _ damaged
-    (pick-either Reads (eqb (field big 8 28 own) (p .0)) _ _
-    (pick-either Reads (fieldsSound (fieldsOf 8 8 own)) _ _
-    (pick-either Reads (textRules (part t (89 + b) own) (part q (91 + b + t) own)) _ _ message damaged)
-    damaged)
-    damaged)))
-
 entry-reads : (p : LogPosition) (r : ℕ) (seen : List ℕ) → Reads (entryAt p r seen)
-unfolding entryAt headOf headed
+unfolding entryAt headAt headOf headed
 entry-reads p r seen =
     let room = length seen in
     let total = field big 4 0 seen in
     let magic = field big 4 4 seen in
-    pick-either Reads (ltb r 8) _ _ damaged
-    (pick-either Reads (ltb room 8) _ _ unreadable
+    pick-either (λ k. Reads (headed p seen k)) (ltb r 8) _ _ damaged
+    (pick-either (λ k. Reads (headed p seen k)) (ltb room 8) _ _ unreadable
     (pick-either (λ k. Reads (headed p seen k)) (eqb magic 0xCBD43194) _ _
     (pick-either (λ k. Reads (headed p seen k)) (eqb total r) _ _
     (pick-either (λ k. Reads (headed p seen k)) (ltb room r) _ _ unreadable (blank r))
     damaged)
     (pick-either (λ k. Reads (headed p seen k)) (eqb magic 0xDAA320A7) _ _
     (pick-either (λ k. Reads (headed p seen k)) (ltb total 92 || ltb 4194304 total || ltb r (total + 8)) _ _ damaged
-    (pick-either (λ k. Reads (headed p seen k)) (ltb room total) _ _ unreadable (record-reads p (take total seen))))
+    (pick-either (λ k. Reads (headed p seen k)) (ltb room total) _ _ unreadable
+    (pick-either Reads (isHere p (take total seen) && isSound (take total seen)) _ _ message damaged)))
     damaged)))
 
 -- ---- rules 1 to 4
 
 stands-halts : (directory : List ℕ) (g : Geometry) (v : View) (p : LogPosition) → Halts (standsAt directory g v p)
-unfolding standsAt standsAs entryWithin
+unfolding standsAt standsAs madeOf entryWithin
 stands-halts directory g v p =
     pick-either Halts (eqb (p .0) (v .end .0)) _ _ (halt Done refl) (go (entryWithin (v .log) g p (v .end)) (entry-reads p (segmentRest g p) (seen (v .log) g p (v .end))))
   where
     halt : (b : Answer) → Ruled b → Halts (stop b)
     halt b r a e = let same : b ≡ a = cc in subst Ruled same r
 
-    go : (y : Entry) → Reads y → Halts (standsAs directory g v p y)
+    go : (y : LogEntry) → Reads y → Halts (standsAs directory g v p y)
     go (Stop b) r = halt b (r b refl)
     go (Blank n) r = λ a e. absurd (let z : _≡_ {A = ℕ} 0 1 = cc in omega arith)
     go (Message m) r = λ a e. absurd (let z : _≡_ {A = ℕ} 0 1 = cc in omega arith)
@@ -143,8 +129,8 @@ step-goes f v s = go (standsHere f v s) (stands-halts (f .directory) (f .sizes .
     go (stop a) h = halts a (h a refl)
     go (padded n) h = done
     go (request q hs) h =
-        unless-goes (entryAnswer (q .entry) (q .row) (q .«queue_offset») (f .sizes .entries) (s .counts)) _
-        (entry-ruled (q .entry) (q .row) (q .«queue_offset») (f .sizes .entries) (s .counts))
+        unless-goes (entryAnswer (q .entry) (q .row) (q .«queue_offset») (f .sizes .«queue_entries») (s .counts)) _
+        (entry-ruled (q .entry) (q .row) (q .«queue_offset») (f .sizes .«queue_entries») (s .counts))
         (unless-goes _ _ (items-ruled (f .sizes .index .«slot_count») (f .sizes .index .«item_count») (s .index) (positionOf s) hs) done)
 
 pub never-spent : NeverSpent

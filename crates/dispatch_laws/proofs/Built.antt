@@ -11,13 +11,13 @@ use Rattle.commit_log.specs.Log.{geometryOk}
 use Rattle.consume_queue.specs.Queue.{entriesOk}
 use Rattle.index_file.specs.Index.{sizesOk}
 use Rattle.index_laws.specs.History.{Empty, Put, build}
-use Rattle.index_file.specs.Room.{Sized}
+use Rattle.index_file.specs.Room.{IndexSized}
 use Rattle.index_laws.specs.Claims.{Built}
 use Rattle.index_file.proofs.Judged.{sizes-facts}
 use Rattle.index_file.proofs.Items.{checked-room}
 use Rattle.index_laws.proofs.History.{fresh-empty, fresh-one, built-holds, put-built, filed-built, rising-times}
 use Rattle.index_laws.proofs.Exact.{query-exact}
-use Rattle.machine.specs.Steps.{Outcome, moved, stopped, andThen, walk, run}
+use Rattle.machine.specs.Steps.{Outcome, moved, stopped, andThen, iterate, run}
 use Rattle.machine.specs.Calls.{accepted, total, final, Leads}
 use Rattle.machine.proofs.Steps.{moved-inj, never, run-stops}
 use Rattle.machine.proofs.Lists.{call-accepted}
@@ -30,13 +30,13 @@ use Rattle.dispatch_step.proofs.Moves.{moves}
 use Rattle.dispatch.specs.Dispatch.{sizesFit, doorOf, dispatcher}
 use Rattle.dispatch_laws.specs.History.{putBy, onward, puts}
 use Rattle.dispatch_laws.specs.Claims.{CallBuilds, QueryAfterCalls, QueryAfterRisingTimes}
-use Rattle.dispatch_laws.proofs.Doors.{opened, bounded-log}
+use Rattle.dispatch_laws.proofs.DoorStays.{opened, bounded-log}
 use Rattle.dispatch_laws.proofs.Demand3.{demand-3, accepted-at}
 
 -- ---- steps
 
 -- the door lets an index through that was built
-built-sized : (k n : ℕ) (start : List ℕ) (ps : List Put) → Built k n start ps → Sized k n (build k start ps)
+built-sized : (k n : ℕ) (start : List ℕ) (ps : List Put) → Built k n start ps → IndexSized k n (build k start ps)
 built-sized k n start ps b =
     let z = sizes-facts k n (length start) (b .sizes) .0 in
     let h = built-holds k n start ps b in
@@ -78,14 +78,14 @@ module _ (f : Fixed) (v : View) (top : v .end .0 ≤ 1099511627776) (start : Lis
             is = rw (h .is) (put-built k p time hs start ps);
           })
 
-  walk-stands : (m : ℕ) (s t : State) (ps : List Put) → Stands (s .index) ps → walk (stepOf f v) m s ≡ moved t → Stands (t .index) (puts f v m s ps)
-  unfolding walk andThen puts onward
+  walk-stands : (m : ℕ) (s t : State) (ps : List Put) → Stands (s .index) ps → iterate (stepOf f v) m s ≡ moved t → Stands (t .index) (puts f v m s ps)
+  unfolding iterate andThen puts onward
   walk-stands zero s t ps h e = subst (λ (u : State). Stands (u .index) ps) (moved-inj e) h
   walk-stands (suc m) s t ps h e = go (stepOf f v s) refl (walk-stands m) e
     where
       go : (o : Outcome State) → stepOf f v s ≡ o
-          → ((s t : State) (ps : List Put) → Stands (s .index) ps → walk (stepOf f v) m s ≡ moved t → Stands (t .index) (puts f v m s ps))
-          → andThen o (walk (stepOf f v) m) ≡ moved t → Stands (t .index) (onward o ps (λ u. puts f v m u (putBy s (standsHere f v s) ps)))
+          → ((s t : State) (ps : List Put) → Stands (s .index) ps → iterate (stepOf f v) m s ≡ moved t → Stands (t .index) (puts f v m s ps))
+          → andThen o (iterate (stepOf f v) m) ≡ moved t → Stands (t .index) (onward o ps (λ u. puts f v m u (putBy s (standsHere f v s) ps)))
       go (moved u) w ih g = ih u t _ (step-stands s u ps h w) g
       go (stopped a) w ih g = never g
 
@@ -107,7 +107,7 @@ call-builds c s start ps e b i =
 
 index-sizes : (z : Sizes) (log index : ℕ) → sizesFit z log index ≡ true → sizesOk (z .index .«slot_count») (z .index .«item_count») index ≡ true
 unfolding sizesFit
-index-sizes z log index e = both (geometryOk (z .geometry) log && entriesOk (z .entries)) _ e .1
+index-sizes z log index e = both (geometryOk (z .geometry) log && entriesOk (z .«queue_entries»)) _ e .1
 
 -- an empty index of sizes within their limits is built, by no put
 built-none : (k n long : ℕ) (start : List ℕ) → sizesOk k n long ≡ true → Empty k n start → Built k n start []

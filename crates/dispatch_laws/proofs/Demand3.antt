@@ -13,7 +13,7 @@ use Rattle.dispatch_step.specs.Inner.{Moves, over-blank, over-record}
 use Rattle.dispatch_step.proofs.Moves.{moves}
 use Rattle.dispatch.specs.Dispatch.{dispatcher}
 use Rattle.dispatch_laws.specs.Claims.{Demand3, BudgetAbove}
-use Rattle.dispatch_laws.proofs.Doors.{opened, bounded-log, reopened}
+use Rattle.dispatch_laws.proofs.DoorStays.{opened, bounded-log, reopened}
 use Rattle.dispatch_laws.proofs.Stable.{stable}
 
 -- a step climbs, not past the readable end
@@ -23,7 +23,7 @@ climb f v s t (over-blank n h l k m) = rw m (omega arith, k)
 climb f v s t (over-record q hs h d) = rw (d .left) (omega (arith, d .least), d .below)
 
 abbrev Holds : Fixed → State → Type 0
-Holds f s = f .sizes .geometry .«first_position» ≤ positionOf s
+Holds f s = f .sizes .geometry .«first_position» .0 ≤ positionOf s
 
 laws : Laws dispatcher
 laws =

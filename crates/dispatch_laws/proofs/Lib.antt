@@ -1,4 +1,4 @@
-pub mod Doors
+pub mod DoorStays
 pub mod Stable
 pub mod Demand3
 pub mod Answers

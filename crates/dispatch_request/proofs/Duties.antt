@@ -11,7 +11,7 @@ use Rattle.java_hash.specs.Hash.{hashFrom, units, hashOf, signed, carried, tagC
 use Rattle.properties.specs.declared.Found.{Found}
 use Rattle.properties.specs.declared.Found.the-variants.{Absent, One, Many}
 use Rattle.properties.specs.declared.Scanned.{Scanned}
-use Rattle.properties.specs.Finder.{tagsName, finder, scanned, valueOf}
+use Rattle.properties.specs.Finder.{tagsName, finder, scanned, foundBytes}
 use borrow.Author.Tests.{ne-eqb}
 use Rattle.directory.specs.declared.Located.{Located}
 use Rattle.directory.specs.declared.Located.the-variants.{Unlisted, Row}
@@ -76,8 +76,8 @@ number-listed topic id d = go (rowOf topic id d) refl
 
 -- ---- the tag code
 
-pub tag-coded : (found : Found) (l value : List ℕ) {r : ℕ} → value ≡ valueOf found l → r ≡ tagCode value → r ≡ tagOf found l
-unfolding valueOf tagOf tagCode hashOf units hashFrom signed carried pick
+pub tag-coded : (found : Found) (l value : List ℕ) {r : ℕ} → value ≡ foundBytes found l → r ≡ tagCode value → r ≡ tagOf found l
+unfolding foundBytes tagOf tagCode hashOf units hashFrom signed carried pick
 tag-coded Absent l value e f = f ∙ rw e
 tag-coded (One p) l value e f = f ∙ rw e
 tag-coded (Many p) l value e f = f ∙ rw e

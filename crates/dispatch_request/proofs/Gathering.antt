@@ -13,9 +13,9 @@ use Rattle.codec.specs.Choice.{pick}
 use Rattle.units.specs.declared.Place.{Place}
 use Rattle.java_hash.specs.Hash.{topicHash, keyHash}
 use Rattle.properties.specs.declared.Scanned.{Scanned}
-use Rattle.properties.specs.Claims.{Leads}
+use Rattle.properties.specs.Claims.{KeyLeads}
 use Rattle.properties.specs.Parts.{filled}
-use Rattle.properties.specs.Finder.{scanned, valueOf}
+use Rattle.properties.specs.Finder.{scanned, foundBytes}
 use Rattle.properties.specs.Keys.{keysFrom, keyPlaces}
 use Rattle.dispatch_request.specs.Request.{keysAt, recordHashes}
 use Rattle.dispatch_request.specs.Inner.{hashes, filledOne, Gathered}
@@ -92,7 +92,7 @@ module _ (prefix : ℕ) (v : List ℕ) (first : ℕ) (l : List ℕ) where
           more = λ h. absurd (omega (arith, g .place, g .long));
         }
 
-    module _ (p : Place) (t : Leads at v p) where
+    module _ (p : Place) (t : KeyLeads at v p) where
       pub gathering-full : length m ≤ number → Gathered (hashes prefix (keysAt (keyPlaces v) v)) first l (number + 1) m
       unfolding keysAt hashes
       gathering-full h =
@@ -122,7 +122,7 @@ module _ (makes : Bool) (topic p l : List ℕ) where
   none-made e = rw (hashes-none makes topic p (not-true makes e)) (gathered-none 0 l)
 
   pub all-made : (found : Scanned) {prefix : ℕ} {unique keys : List ℕ} {first : ℕ} {m : List ℕ} {r : ℕ} {q : List ℕ} → not makes ≡ false → prefix ≡ topicHash topic
-      → found ≡ scanned p → unique ≡ valueOf (found .«unique_key») p → keys ≡ valueOf (found .keys) p → 0 < length l
+      → found ≡ scanned p → unique ≡ foundBytes (found .«unique_key») p → keys ≡ foundBytes (found .keys) p → 0 < length l
       → Gathered (hashes prefix (filledOne unique)) 0 l first m → Gathered (hashes prefix (keysAt (keyPlaces keys) keys)) first m r q → Gathered (recordHashes makes topic p) 0 l r q
   all-made found {prefix} {unique} e t f u k h a b =
       rw (hashes-all makes topic p found (not-false makes e) t f u k) (gathered-both a (unique-fits prefix l unique h a) b)

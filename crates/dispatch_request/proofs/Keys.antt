@@ -16,7 +16,7 @@ use Rattle.properties.specs.declared.Found.the-variants.{Absent, One, Many}
 use Rattle.properties.specs.declared.Scanned.{Scanned}
 use Rattle.properties.specs.Values.{numberFound}
 use Rattle.properties.specs.Parts.{filled, bytesAt}
-use Rattle.properties.specs.Finder.{uniqueKeyName, finder, scanned, valueOf}
+use Rattle.properties.specs.Finder.{uniqueKeyName, finder, scanned, foundBytes}
 use Rattle.properties.specs.Keys.{keyPlaces}
 use Rattle.properties.proofs.Places.{keys-few, finder-filled}
 use Rattle.dispatch_request.specs.Request.{isFound, uniqueKey, keysAt, keysIn, itemKeys, itemHashes, recordHashes}
@@ -29,8 +29,8 @@ length-part-le : (p : Place) (l : List ℕ) → length (bytesAt p l) ≤ length 
 unfolding bytesAt part
 length-part-le p l = rw (length-take, length-drop) (omega arith)
 
-length-value-le : (f : Found) (l : List ℕ) → length (valueOf f l) ≤ length l
-unfolding valueOf
+length-value-le : (f : Found) (l : List ℕ) → length (foundBytes f l) ≤ length l
+unfolding foundBytes
 length-value-le Absent l = omega arith
 length-value-le (One p) l = length-part-le p l
 length-value-le (Many p) l = length-part-le p l
@@ -43,31 +43,31 @@ unique-few : (f : Found) (p : List ℕ) → length (uniqueKey f p) ≤ 1
 unfolding uniqueKey pick
 unique-few f p = go (isFound f)
   where
-    go : (b : Bool) → length (pick b (valueOf f p ∷ []) []) ≤ 1
+    go : (b : Bool) → length (pick b (foundBytes f p ∷ []) []) ≤ 1
     go true = omega arith
     go false = omega arith
 
 -- a unique key that is found has a byte
-filled-value : (f : Found) (p : List ℕ) → (0 < numberFound f → filled (valueOf f p) ≡ true) → filledOne (valueOf f p) ≡ uniqueKey f p
-unfolding filledOne uniqueKey isFound valueOf filled numberFound pick
+filled-value : (f : Found) (p : List ℕ) → (0 < numberFound f → filled (foundBytes f p) ≡ true) → filledOne (foundBytes f p) ≡ uniqueKey f p
+unfolding filledOne uniqueKey isFound foundBytes filled numberFound pick
 filled-value Absent p h = refl
 filled-value (One q) p h = rw (h (omega arith))
 filled-value (Many q) p h = rw (h (omega arith))
 
-unique-filled : (p : List ℕ) → filledOne (valueOf (scanned p .«unique_key») p) ≡ uniqueKey (scanned p .«unique_key») p
+unique-filled : (p : List ℕ) → filledOne (foundBytes (scanned p .«unique_key») p) ≡ uniqueKey (scanned p .«unique_key») p
 unfolding scanned
 unique-filled p = filled-value (finder uniqueKeyName p) p (finder-filled uniqueKeyName p)
 
 -- a record's items, as found
 keys-all : (found : Scanned) (p : List ℕ) → found ≡ scanned p
-    → itemKeys p ≡ filledOne (valueOf (found .«unique_key») p) ++ keysAt (keyPlaces (valueOf (found .keys) p)) (valueOf (found .keys) p)
+    → itemKeys p ≡ filledOne (foundBytes (found .«unique_key») p) ++ keysAt (keyPlaces (foundBytes (found .keys) p)) (foundBytes (found .keys) p)
 unfolding itemKeys keysIn
 keys-all found p e = rw (e, unique-filled p)
 
 items-few : (p : List ℕ) → 2 * length (itemKeys p) ≤ length p + 3
 unfolding itemKeys keysIn
 items-few p =
-    let v = valueOf (scanned p .keys) p in
+    let v = foundBytes (scanned p .keys) p in
     let a = unique-few (scanned p .«unique_key») p in
     let b = keys-few v in
     let c = length-value-le (scanned p .keys) p in
@@ -121,7 +121,7 @@ unfolding recordHashes pick
 hashes-none makes topic p e = rw e
 
 pub hashes-all : (makes : Bool) (topic p : List ℕ) (found : Scanned) {prefix : ℕ} {unique keys : List ℕ} → makes ≡ true → prefix ≡ topicHash topic → found ≡ scanned p
-    → unique ≡ valueOf (found .«unique_key») p → keys ≡ valueOf (found .keys) p
+    → unique ≡ foundBytes (found .«unique_key») p → keys ≡ foundBytes (found .keys) p
     → recordHashes makes topic p ≡ hashes prefix (filledOne unique) ++ hashes prefix (keysAt (keyPlaces keys) keys)
 unfolding recordHashes pick
 hashes-all makes topic p found {prefix} {unique} {keys} m t e u k =

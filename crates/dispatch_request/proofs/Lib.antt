@@ -1,4 +1,5 @@
 pub mod Duties
 pub mod Keys
+pub mod Among
 pub mod Gathering
 pub mod Standing

@@ -6,6 +6,7 @@ use lib.ListN.{length, take}
 use Rattle.codec.specs.Choice.{pick}
 use Rattle.java_hash.specs.Hash.{keyHash}
 use Rattle.properties.specs.Parts.{filled}
+use Rattle.record.specs.Record.{shortHosts, lengthsIn, topicIn, propertiesIn}
 
 -- the hashes of keys, from the hash of topic and `#`
 unfoldable pub hashes : ℕ → List (List ℕ) → List ℕ
@@ -21,3 +22,10 @@ pub record Gathered (hs : List ℕ) (n : ℕ) (list : List ℕ) (r : ℕ) (after
   pub long : length after ≡ length list
   pub all : r ≤ length list → (r ≡ n + length hs) × (take r after ≡ take n list ++ hs)
   pub more : length list < r → length list < n + length hs
+
+-- topic and properties of a record, in its own bytes
+abbrev pub topicOf : List ℕ → List ℕ
+topicOf own = topicIn (lengthsIn shortHosts own) own
+
+abbrev pub propertiesOf : List ℕ → List ℕ
+propertiesOf own = propertiesIn (lengthsIn shortHosts own) own

@@ -1,9 +1,10 @@
 -- What a record makes by itself: document 01, rule 5 of "One dispatch step", and "Properties and hashes". Assumes nothing.
 use Prim.Native.Nat.{ℕ, _*_, _/_, _%_}
-use mathlib.Core.Bool.{Bool, true, false, not, _||_}
+use mathlib.Core.Bool.{Bool, true, false, not, _&&_, _||_}
 use mathlib.Core.List.{List, [], _∷_, _++_, map}
 use lib.Dec.{eqb}
 use lib.ListN.{length}
+use Rattle.codec.specs.Bytes.{same}
 use Rattle.codec.specs.Choice.{pick}
 use Rattle.units.specs.declared.Answer.{Answer}
 use Rattle.units.specs.declared.Answer.the-variants.{Done}
@@ -14,14 +15,14 @@ use Rattle.properties.specs.declared.Found.{Found}
 use Rattle.properties.specs.declared.Found.the-variants.{Absent, One, Many}
 use Rattle.properties.specs.declared.Scanned.{Scanned}
 use Rattle.properties.specs.Parts.{bytesAt}
-use Rattle.properties.specs.Finder.{tagsName, finder, scanned, valueOf}
+use Rattle.properties.specs.Finder.{tagsName, finder, scanned, foundBytes}
 use Rattle.properties.specs.Keys.{keyPlaces}
 use Rattle.directory.specs.declared.Located.{Located}
 use Rattle.directory.specs.declared.Located.the-variants.{Unlisted, Row}
 use Rattle.directory.specs.Directory.{rowOf}
 use Rattle.record.specs.declared.Record.{Record}
-use Rattle.record.specs.declared.Entry.{Entry}
-use Rattle.record.specs.declared.Entry.the-variants.{Stop, Blank, Message}
+use Rattle.record.specs.declared.LogEntry.{LogEntry}
+use Rattle.record.specs.declared.LogEntry.the-variants.{Stop, Blank, Message}
 use Rattle.commit_log.specs.declared.Geometry.{Geometry}
 use Rattle.commit_log.specs.Log.{entryWithin, placeBytes}
 use Rattle.dispatch_request.specs.declared.DispatchRequest.{DispatchRequest}
@@ -65,7 +66,7 @@ isFound (Many p) = true
 
 -- "first the unique key"
 unfoldable pub uniqueKey : Found → List ℕ → List (List ℕ)
-uniqueKey found properties = pick (isFound found) (valueOf found properties ∷ []) []
+uniqueKey found properties = pick (isFound found) (foundBytes found properties ∷ []) []
 
 -- "then each non-empty part of KEYS between spaces, in order, repeats kept"
 unfoldable pub keysAt : List Place → List ℕ → List (List ℕ)
@@ -74,10 +75,24 @@ keysAt places value = map (λ p. bytesAt p value) places
 unfoldable pub keysIn : Scanned → List ℕ → List (List ℕ)
 keysIn found properties =
     uniqueKey (found .«unique_key») properties
-    ++ keysAt (keyPlaces (valueOf (found .keys) properties)) (valueOf (found .keys) properties)
+    ++ keysAt (keyPlaces (foundBytes (found .keys) properties)) (foundBytes (found .keys) properties)
 
 unfoldable pub itemKeys : List ℕ → List (List ℕ)
 itemKeys properties = keysIn (scanned properties) properties
+
+-- the keys of the items that a record makes, if it makes any
+unfoldable pub recordKeys : Bool → List ℕ → List (List ℕ)
+recordKeys makes properties = pick makes (itemKeys properties) []
+
+-- one of them is this key
+unfoldable pub isAmong : List ℕ → List (List ℕ) → Bool
+isAmong key [] = false
+isAmong key (k ∷ ks) = same k key || isAmong key ks
+
+-- a topic and key are among the items of a record with this system flag, topic and properties
+unfoldable pub hasItem : ℕ → List ℕ → List ℕ → List ℕ → List ℕ → Bool
+hasItem flag recordTopic properties topic key =
+    same recordTopic topic && isAmong key (recordKeys (makesItems (transaction flag)) properties)
 
 -- "Index hash: of topic, `#`, key"
 unfoldable pub itemHashes : List ℕ → List ℕ → List ℕ
@@ -123,14 +138,15 @@ pub data Stands : Type 0 where
   blank : ℕ → Stands
   request : DispatchRequest → List ℕ → Stands
 
+-- what a record makes, with the bytes of its topic and properties
+unfoldable pub madeOf : List ℕ → Record → List ℕ → List ℕ → Stands
+madeOf directory m topic properties = request (requestOf directory m topic properties) (hashesOf m topic properties)
+
 -- rules 2 to 4 have read an entry at p
-unfoldable pub standsAs : List ℕ → Geometry → View → LogPosition → Entry → Stands
+unfoldable pub standsAs : List ℕ → Geometry → View → LogPosition → LogEntry → Stands
 standsAs directory g v p (Stop a) = stop a
 standsAs directory g v p (Blank n) = blank n
-standsAs directory g v p (Message m) =
-    let topic = placeBytes (v .log) g p (m .topic) in
-    let properties = placeBytes (v .log) g p (m .properties) in
-    request (requestOf directory m topic properties) (hashesOf m topic properties)
+standsAs directory g v p (Message m) = madeOf directory m (placeBytes (v .log) g p (m .topic)) (placeBytes (v .log) g p (m .properties))
 
 -- rule 1: "Position = E: 0"
 unfoldable pub standsAt : List ℕ → Geometry → View → LogPosition → Stands

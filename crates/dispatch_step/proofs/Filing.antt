@@ -44,7 +44,7 @@ unfolding answerTo leftOf progressAfter
 did-moved o s t e = record { ended = rw e; left = rw e }
 
 module _ (z : Sizes) (q : DispatchRequest) (hs : List ℕ) (s : State) {halt : Answer} {n : ℕ}
-    (answered : halt ≡ entryAnswer (q .entry) (q .row) (q .«queue_offset») (z .entries) (s .counts)) (numbered : n ≡ numberOf halt) where
+    (answered : halt ≡ entryAnswer (q .entry) (q .row) (q .«queue_offset») (z .«queue_entries») (s .counts)) (numbered : n ≡ numberOf halt) where
   pub file-halted : (n ≡ 0 → ⊥) → Did (filed z q hs s) s (Stopped halt) (s .counts) (s .queues) (s .index)
   unfolding filed unless pick
   file-halted h = did-stopped (filed z q hs s) s halt (rw (← answered, ← numbered, ne-eqb n 0 h))
@@ -55,7 +55,7 @@ module _ (z : Sizes) (q : DispatchRequest) (hs : List ℕ) (s : State) {halt : A
     file-broken h = did-stopped (filed z q hs s) s broken (rw (← answered, ← numbered, eq-eqb n 0 passed, ← judged, ← counted, ne-eqb b 0 h))
 
     pub file-done : b ≡ 0 → {counts queues index : List ℕ} {at : ℕ} → counts ≡ enteredCounts (q .entry) (q .row) (s .counts)
-        → queues ≡ enteredQueues (q .entry) (q .row) (z .entries) (s .counts) (entryBytes (s .progress .position) (q .total) (q .«tag_code»)) (s .queues)
+        → queues ≡ enteredQueues (q .entry) (q .row) (z .«queue_entries») (s .counts) (entryBytes (s .progress .position) (q .total) (q .«tag_code»)) (s .queues)
         → index ≡ putAll (z .index .«slot_count») (positionOf s) (q .«store_time») hs (s .index) → at ≡ positionOf s + q .total
         → Did (filed z q hs s) s (Moved (record { position = record { 0 = at } })) counts queues index
     unfolding filed written unless pick

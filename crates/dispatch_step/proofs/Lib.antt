@@ -1,4 +1,4 @@
 pub mod Filing
 pub mod Moves
 pub mod Fits
-pub mod Going
+pub mod StepKeeps

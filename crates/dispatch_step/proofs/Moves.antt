@@ -29,14 +29,14 @@ went a next t e =
 
 -- a request that was filed passed every check, and its entry and items were written
 pub record Files (z : Sizes) (q : DispatchRequest) (hs : List ℕ) (s t : State) : Type 0 where
-  pub entered : entryAnswer (q .entry) (q .row) (q .«queue_offset») (z .entries) (s .counts) ≡ Done
+  pub entered : entryAnswer (q .entry) (q .row) (q .«queue_offset») (z .«queue_entries») (s .counts) ≡ Done
   pub checked : itemsAnswer (z .index .«slot_count») (z .index .«item_count») (s .index) (positionOf s) hs ≡ Done
   pub left : t ≡ written z q hs s
 
 pub filed-moved : (z : Sizes) (q : DispatchRequest) (hs : List ℕ) (s t : State) → filed z q hs s ≡ moved t → Files z q hs s t
 unfolding filed
 filed-moved z q hs s t e =
-    let first = went (entryAnswer (q .entry) (q .row) (q .«queue_offset») (z .entries) (s .counts)) _ t e in
+    let first = went (entryAnswer (q .entry) (q .row) (q .«queue_offset») (z .«queue_entries») (s .counts)) _ t e in
     let second = went (itemsAnswer (z .index .«slot_count») (z .index .«item_count») (s .index) (positionOf s) hs) _ t (first .1) in
     record { entered = first .0; checked = second .0; left = sym (moved-inj (second .1)) }
 

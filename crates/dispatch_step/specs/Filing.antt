@@ -5,7 +5,7 @@ use mathlib.Core.Bool.{Bool, true, false}
 use mathlib.Core.List.{List}
 use lib.ListN.{length}
 use Rattle.consume_queue.specs.Queue.{entriesOk, countsOk}
-use Rattle.index_file.specs.Room.{Sized}
+use Rattle.index_file.specs.Room.{IndexSized}
 use Rattle.index_file.specs.Items.{anyBadSlot}
 use Rattle.machine.specs.Steps.{Outcome, moved, stopped}
 use Rattle.dispatch_request.specs.declared.DispatchRequest.{DispatchRequest}
@@ -17,13 +17,13 @@ use Rattle.dispatch_step.specs.Step.{State, stateOf, positionOf}
 
 -- a request and the hashes of its items, on a state that the door let through; the slots are good if that is said
 pub record Fileable (z : Sizes) (q : DispatchRequest) (hs : List ℕ) (judged : Bool) (s : State) : Type 0 where
-  pub entries : entriesOk (z .entries) ≡ true
-  pub counted : countsOk 16 (z .entries) (s .counts) ≡ true
-  pub sized : Sized (z .index .«slot_count») (z .index .«item_count») (s .index)
+  pub entries : entriesOk (z .«queue_entries») ≡ true
+  pub counted : countsOk 16 (z .«queue_entries») (s .counts) ≡ true
+  pub sized : IndexSized (z .index .«slot_count») (z .index .«item_count») (s .index)
   pub most : q .total ≤ 4194304
   pub low : positionOf s ≤ 1099511627776
   pub row : q .row ≤ 16
-  pub region : q .row < 16 → (q .row * z .entries + z .entries) * 20 ≤ length (s .queues)
+  pub region : q .row < 16 → (q .row * z .«queue_entries» + z .«queue_entries») * 20 ≤ length (s .queues)
   pub few : length hs ≤ 16385
   pub good : judged ≡ true → anyBadSlot (z .index .«slot_count») (s .index) hs ≡ false
 

@@ -15,7 +15,7 @@ pub record Passed (f : Fixed) (v : View) (s : State) (q : DispatchRequest) (hs :
   pub most : q .total ≤ 4194304
   pub below : positionOf s + q .total ≤ v .end .0
   pub time : q .«store_time» ≤ 281474976710655
-  pub entered : entryAnswer (q .entry) (q .row) (q .«queue_offset») (f .sizes .entries) (s .counts) ≡ Done
+  pub entered : entryAnswer (q .entry) (q .row) (q .«queue_offset») (f .sizes .«queue_entries») (s .counts) ≡ Done
   pub checked : itemsAnswer (f .sizes .index .«slot_count») (f .sizes .index .«item_count») (s .index) (positionOf s) hs ≡ Done
   pub left : t ≡ written (f .sizes) q hs s
 

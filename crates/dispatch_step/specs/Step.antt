@@ -50,14 +50,14 @@ written z q hs s =
     record {
       progress = onBy (q .total) (s .progress);
       counts = enteredCounts (q .entry) (q .row) (s .counts);
-      queues = enteredQueues (q .entry) (q .row) (z .entries) (s .counts) (entryBytes (s .progress .position) (q .total) (q .«tag_code»)) (s .queues);
+      queues = enteredQueues (q .entry) (q .row) (z .«queue_entries») (s .counts) (entryBytes (s .progress .position) (q .total) (q .«tag_code»)) (s .queues);
       index = putAll (z .index .«slot_count») (positionOf s) (q .«store_time») hs (s .index);
     }
 
 -- rule 6's stop, then rule 7's, each judged on the state before the record: nothing is written before every check has passed
 unfoldable pub filed : Sizes → DispatchRequest → List ℕ → State → Outcome State
 filed z q hs s =
-    unless (entryAnswer (q .entry) (q .row) (q .«queue_offset») (z .entries) (s .counts))
+    unless (entryAnswer (q .entry) (q .row) (q .«queue_offset») (z .«queue_entries») (s .counts))
     (unless (itemsAnswer (z .index .«slot_count») (z .index .«item_count») (s .index) (positionOf s) hs)
     (moved (written z q hs s)))
 

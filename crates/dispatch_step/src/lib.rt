@@ -11,7 +11,7 @@ use units::LogPosition;
 // What stays the same between calls: the log's geometry, the entries of a queue, the slots and items of the index.
 pub struct Sizes {
     pub geometry: Geometry,
-    pub entries: u64,
+    pub queue_entries: u64,
     pub index: IndexSizes,
 }
 
@@ -41,7 +41,7 @@ pub fn file(
     requires { ⌜ Fileable sizes request (now list) judged (stateOf progress (now counts) (now queues) (now index)) ⌝ }
     ensures { λ r. ⌜ Did (filed sizes request (now (list .entry)) (stateOf progress (now (counts .entry)) (now (queues .entry)) (now (index .entry)))) (stateOf progress (now (counts .entry)) (now (queues .entry)) (now (index .entry))) r (now (counts .exit)) (now (queues .exit)) (now (index .exit)) ⌝ }
 {
-    let entries = sizes.entries;
+    let entries = sizes.queue_entries;
     let z = sizes.index;
     let position = progress.position;
     let offset = request.queue_offset;

@@ -50,7 +50,7 @@ sizes-long {s} k n len e h = let f = sizes-facts k n len (sym e ∙ not-false s 
 
 -- ---- the header
 
-pub record Sound (n : ℕ) (l : List ℕ) : Type 0 where
+pub record SoundHeader (n : ℕ) (l : List ℕ) : Type 0 where
   pub used : usedCount l ≤ n
   pub filled : filledSlots l ≤ usedCount l - 1
   pub first-time : firstTime l ≤ 281474976710655
@@ -69,7 +69,7 @@ module _ (n : ℕ) (l : List ℕ) where
   abbrev positions : Bool
   positions = positionOk (firstPosition l) && positionOk (lastPosition l)
 
-  pub header-facts : headerSound n l ≡ true → Sound n l
+  pub header-facts : headerSound n l ≡ true → SoundHeader n l
   unfolding headerSound
   header-facts e =
       let a = both (counts && times && positions) (ltb 1 (usedCount l) || untouched l) e in
@@ -88,7 +88,7 @@ module _ (n : ℕ) (l : List ℕ) where
         fresh = a .1;
       }
 
-  pub header-sound : Sound n l → headerSound n l ≡ true
+  pub header-sound : SoundHeader n l → headerSound n l ≡ true
   unfolding headerSound
   header-sound s =
       rw (

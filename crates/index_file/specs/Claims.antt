@@ -8,19 +8,19 @@ use Rattle.codec.specs.Bytes.{part}
 use Rattle.units.specs.declared.Answer.the-variants.{Done}
 use Rattle.index_file.specs.Index.{sizesOk, headerSound}
 use Rattle.index_file.specs.Items.{anyBadSlot, itemsAnswer, putAll}
-use Rattle.index_file.specs.Room.{Room, Sized}
+use Rattle.index_file.specs.Room.{Room, IndexSized}
 
 -- sizes and header, judged at the door, are what the check of a record's items needs
 abbrev pub DoorSized : Type 0
-DoorSized = (k n : ℕ) (index : List ℕ) → sizesOk k n (length index) ≡ true → headerSound n index ≡ true → Sized k n index
+DoorSized = (k n : ℕ) (index : List ℕ) → sizesOk k n (length index) ≡ true → headerSound n index ≡ true → IndexSized k n index
 
 -- where rule 7 lets a record's items pass there is room for them
 abbrev pub CheckedRoom : Type 0
-CheckedRoom = (k n : ℕ) (index : List ℕ) (position : ℕ) (hs : List ℕ) → Sized k n index → itemsAnswer k n index position hs ≡ Done → Room k n index (length hs)
+CheckedRoom = (k n : ℕ) (index : List ℕ) (position : ℕ) (hs : List ℕ) → IndexSized k n index → itemsAnswer k n index position hs ≡ Done → Room k n index (length hs)
 
 -- an index that the door lets through, with room for a record's items, is one after they are put
 abbrev pub PutAllSized : Type 0
-PutAllSized = (k n position time : ℕ) (hs index : List ℕ) → Room k n index (length hs) → Sized k n (putAll k position time hs index)
+PutAllSized = (k n position time : ℕ) (hs index : List ℕ) → Room k n index (length hs) → IndexSized k n (putAll k position time hs index)
 
 -- slots that are good stay good, whatever items are put
 abbrev pub GoodSlotsStay : Type 0

@@ -15,8 +15,8 @@ pub record Room (k n : ℕ) (index : List ℕ) (items : ℕ) : Type 0 where
   pub fill : filledSlots index < usedCount index
 
 -- the same, as the door lets it through
-abbrev pub Sized : ℕ → ℕ → List ℕ → Type 0
-Sized k n index = Room k n index 0
+abbrev pub IndexSized : ℕ → ℕ → List ℕ → Type 0
+IndexSized k n index = Room k n index 0
 
 -- the place of slot s, of k
 pub record SlotPlace (k s at : ℕ) : Type 0 where

@@ -7,7 +7,7 @@ ghost use Rattle.codec.specs.Bytes.{overwrite};
 ghost use Rattle.java_hash.specs.Hash.{slotOf};
 ghost use Rattle.index_file.specs.Index.{usedCount, sizesOk, headerSound, itemAt, itemBytes, secondsOf, filledAfter};
 ghost use Rattle.index_file.specs.Items.{isAhead, isFull, anyBadSlot, itemsAnswer, putAll};
-ghost use Rattle.index_file.specs.Room.{Room, Sized, SlotPlace};
+ghost use Rattle.index_file.specs.Room.{Room, IndexSized, SlotPlace};
 ghost use Rattle.index_file.specs.Inner.{secondsAfter, withHeader, Entered};
 use units::Answer;
 use units::LogPosition;
@@ -232,7 +232,7 @@ pub fn items_answer(
     list: &[u32],
     judged: bool,
 ) -> Answer
-    requires { ⌜ Sized (sizes .«slot_count») (sizes .«item_count») (now index) × (length (now list) ≤ 16385) × (judged ≡ true → anyBadSlot (sizes .«slot_count») (now index) (now list) ≡ false) ⌝ }
+    requires { ⌜ IndexSized (sizes .«slot_count») (sizes .«item_count») (now index) × (length (now list) ≤ 16385) × (judged ≡ true → anyBadSlot (sizes .«slot_count») (now index) (now list) ≡ false) ⌝ }
     ensures { λ r. ⌜ r ≡ itemsAnswer (sizes .«slot_count») (sizes .«item_count») (now (index .entry)) (position .0) (now (list .entry)) ⌝ }
 {
     if list.len() == 0 {

@@ -11,7 +11,7 @@ use Rattle.codec.specs.Choice.{pick}
 use Rattle.codec.proofs.Choices.{both}
 use Rattle.java_hash.specs.Hash.{indexHash, slotOf}
 use Rattle.java_hash.proofs.HashLaws.{slot-within}
-use Rattle.units.specs.declared.Answer.the-variants.{Done, BadSizes, BadIndexHeader, BadQuery}
+use Rattle.units.specs.declared.Answer.the-variants.{Done, BadSizes, BadHeader, Malformed}
 use Rattle.index_file.specs.declared.Item.{Item}
 use Rattle.index_query.specs.declared.Criteria.{Criteria}
 use Rattle.index_file.specs.Index.{usedCount, sizesOk, headerSound, itemOf}
@@ -94,7 +94,7 @@ unfolding queried queryWalk reported pick
 reads-few k n l topic key first last wanted out =
     go (not (sizesOk k n (length l))) (not (headerSound n l)) (not (queryOk (length topic) (length key) first last (wantedOf wanted) (length out)))
   where
-    go : (a b c : Bool) → pick a (ends BadSizes) (pick b (ends BadIndexHeader) (pick c (ends BadQuery) (search k l (criteriaOf l (indexHash topic key) first last) (wantedOf wanted)))) .read ≤ usedCount l - 1
+    go : (a b c : Bool) → pick a (ends BadSizes) (pick b (ends BadHeader) (pick c (ends Malformed) (search k l (criteriaOf l (indexHash topic key) first last) (wantedOf wanted)))) .read ≤ usedCount l - 1
     go true b c = omega arith
     go false true c = omega arith
     go false false true = omega arith
@@ -106,7 +106,7 @@ query-refused k n l topic key first last wanted out h =
     go (sizesOk k n (length l)) (headerSound n l) (queryOk (length topic) (length key) first last (wantedOf wanted) (length out)) h
   where
     go : (a b c : Bool) → (a && b && c) ≡ false
-        → Unchanged out (reported (pick (not a) (ends BadSizes) (pick (not b) (ends BadIndexHeader) (pick (not c) (ends BadQuery) (search k l (criteriaOf l (indexHash topic key) first last) (wantedOf wanted))))) out)
+        → Unchanged out (reported (pick (not a) (ends BadSizes) (pick (not b) (ends BadHeader) (pick (not c) (ends Malformed) (search k l (criteriaOf l (indexHash topic key) first last) (wantedOf wanted))))) out)
     go false b c e = record { found = refl; read = refl; output = refl }
     go true false c e = record { found = refl; read = refl; output = refl }
     go true true false e = record { found = refl; read = refl; output = refl }

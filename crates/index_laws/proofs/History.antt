@@ -24,7 +24,7 @@ use Rattle.index_laws.specs.Claims.{Built, RisingTimes, BuiltCount, PutS
 use Rattle.index_query.proofs.Walks.{undamaged}
 use Rattle.index_file.proofs.Stores.{stored, kept-before, kept-after}
 use Rattle.index_file.proofs.Puts.{length-put, used-put, filled-put, first-time-put, last-time-put, first-position-put, last-position-put, slot-same, slot-other, item-other, item-same}
-use Rattle.index_file.proofs.Judged.{SizesIn, sizes-facts, Sound, header-facts, header-sound}
+use Rattle.index_file.proofs.Judged.{SizesIn, sizes-facts, SoundHeader, header-facts, header-sound}
 use Rattle.index_file.proofs.Items.{room-one, room-less}
 use Rattle.index_laws.proofs.Chain.{Linked, linked-cong, newest-le}
 
@@ -91,7 +91,7 @@ fresh-one k n =
 fresh : (k n : ℕ) (l : List ℕ) → Empty k n l → Fresh k n l
 fresh k n l e = ⊎-elim (λ z. rw z (fresh-empty k n)) (λ z. rw z (fresh-one k n)) e
 
-fresh-sound : (k n : ℕ) (l : List ℕ) → 2 ≤ n → Fresh k n l → Sound n l
+fresh-sound : (k n : ℕ) (l : List ℕ) → 2 ≤ n → Fresh k n l → SoundHeader n l
 unfolding untouched
 fresh-sound k n l h f =
     record {
@@ -112,7 +112,7 @@ pick-le true x y m h g = h
 pick-le false x y m h g = g
 
 module _ (k n hash position time : ℕ) (l : List ℕ) (r : Room k n l 1) (hp : position ≤ 1099511627776) (ht : time ≤ 281474976710655) where
-  sound-put : Sound n l → Sound n (put k hash position time l)
+  sound-put : SoundHeader n l → SoundHeader n (put k hash position time l)
   unfolding filledAfter
   sound-put s =
       record {
@@ -151,7 +151,7 @@ seconds-small first time = pick-le (eqb first 0) 0 (min ((time - first) / 1000) 
 pub record Holds (k n : ℕ) (l : List ℕ) (ps : List Put) : Type 0 where
   pub long : length l ≡ 40 + 4 * k + 20 * n
   pub count : usedCount l ≡ suc (length ps)
-  pub sound : Sound n l
+  pub sound : SoundHeader n l
   pub first : firstTime l ≡ oldest ps
   pub slots : (s : ℕ) → s < k → slotValue l s ≡ newest k s (items k ps)
   pub chain : Linked (itemOf k l) k (items k ps)

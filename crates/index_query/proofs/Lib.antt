@@ -1,4 +1,4 @@
 pub mod Walks
 pub mod Judged
-pub mod Turns
-pub mod Doors
+pub mod WalkLoop
+pub mod QueryDoor

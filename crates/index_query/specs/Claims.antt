@@ -7,10 +7,10 @@ use lib.Dec.{leb}
 use lib.ListN.{length, drop}
 use Rattle.units.specs.declared.Answer.the-variants.{Done}
 use Rattle.index_file.specs.Index.{sizesOk, headerSound, usedCount}
-use Rattle.index_query.specs.Query.{wantedOf, queryOk, Report, queried}
+use Rattle.index_query.specs.Query.{wantedOf, queryOk, QueryOutcome, queried}
 
 -- a query that is done, with these positions in front of the output and the rest of it unchanged
-pub record Finds (ms out : List ℕ) (r : Report) : Type 0 where
+pub record Finds (ms out : List ℕ) (r : QueryOutcome) : Type 0 where
   pub answer : r .made .answer ≡ Done
   pub found : r .made .found ≡ length ms
   pub output : r .out ≡ ms ++ drop (length ms) out
@@ -22,7 +22,7 @@ ReadsFew =
     → queried k n index topic key first last wanted out .made .read ≤ usedCount index - 1
 
 -- "A call refused at the door .. returns .. 0 for all else", "nothing changed"
-pub record Unchanged (out : List ℕ) (r : Report) : Type 0 where
+pub record Unchanged (out : List ℕ) (r : QueryOutcome) : Type 0 where
   pub found : r .made .found ≡ 0
   pub read : r .made .read ≡ 0
   pub output : r .out ≡ out

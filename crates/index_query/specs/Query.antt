@@ -6,7 +6,7 @@ use lib.Dec.{leb, eqb}
 use lib.ListN.{length, drop}
 use Rattle.codec.specs.Choice.{pick}
 use Rattle.java_hash.specs.Hash.{indexHash}
-use Rattle.units.specs.declared.Answer.the-variants.{BadSizes, BadIndexHeader, BadQuery}
+use Rattle.units.specs.declared.Answer.the-variants.{BadSizes, BadHeader, Malformed}
 use Rattle.index_query.specs.declared.Queried.{Queried}
 use Rattle.index_file.specs.Index.{timeOk, sizesOk, headerSound}
 use Rattle.index_query.specs.Walk.{Walked, ends, criteriaOf, search}
@@ -29,19 +29,19 @@ queryOk topic key first last wanted places =
 unfoldable pub queryWalk : ℕ → ℕ → List ℕ → List ℕ → List ℕ → ℕ → ℕ → ℕ → ℕ → Walked
 queryWalk k n index topic key first last wanted places =
     pick (not (sizesOk k n (length index))) (ends BadSizes)
-    (pick (not (headerSound n index)) (ends BadIndexHeader)
-    (pick (not (queryOk (length topic) (length key) first last (wantedOf wanted) places)) (ends BadQuery)
+    (pick (not (headerSound n index)) (ends BadHeader)
+    (pick (not (queryOk (length topic) (length key) first last (wantedOf wanted) places)) (ends Malformed)
     (search k index (criteriaOf index (indexHash topic key) first last) (wantedOf wanted))))
 
 -- what a query gives and leaves: the result, and the output
-pub record Report : Type 0 where
+pub record QueryOutcome : Type 0 where
   pub made : Queried
   pub out : List ℕ
 
 -- "Output past the matches is unchanged"
-unfoldable pub reported : Walked → List ℕ → Report
+unfoldable pub reported : Walked → List ℕ → QueryOutcome
 reported w out =
     record { made = record { answer = w .answer; found = length (w .found); read = w .read }; out = w .found ++ drop (length (w .found)) out }
 
-unfoldable pub queried : ℕ → ℕ → List ℕ → List ℕ → List ℕ → ℕ → ℕ → ℕ → List ℕ → Report
+unfoldable pub queried : ℕ → ℕ → List ℕ → List ℕ → List ℕ → ℕ → ℕ → ℕ → List ℕ → QueryOutcome
 queried k n index topic key first last wanted out = reported (queryWalk k n index topic key first last wanted (length out)) out

@@ -199,10 +199,10 @@ pub fn query(
         return ended(Answer::BadSizes, 0, 0);
     }
     if !index_file::header_sound(index, sizes.item_count) {
-        return ended(Answer::BadIndexHeader, 0, 0);
+        return ended(Answer::BadHeader, 0, 0);
     }
     if !fits {
-        return ended(Answer::BadQuery, 0, 0);
+        return ended(Answer::Malformed, 0, 0);
     }
     let criteria = criteria_for(index, hash, first_time, last_time);
     walk_chain(index, sizes.slot_count, criteria, most as usize, out)

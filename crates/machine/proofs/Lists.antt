@@ -8,7 +8,7 @@ use mathlib.Core.List.{List, [], _∷_, _++_}
 use mathlib.Core.Option.{Option, none, some}
 use Rattle.units.specs.declared.Answer.{Answer}
 use Rattle.units.specs.declared.Answer.the-variants.{BudgetSpent}
-use Rattle.machine.specs.Steps.{Outcome, moved, stopped, Ran, andThen, walk, run, Stops}
+use Rattle.machine.specs.Steps.{Outcome, moved, stopped, Ran, andThen, iterate, run, Stops}
 use Rattle.machine.specs.Calls.{Door, accepted, refused, Machine, Call, admit, keepIf, latest, Each, Pairs, doorAt, stepAt, call, withBudget}
 use Rattle.machine.specs.Calls.{Report, Chain, total, final, passed, Follows, Steady, EachStops, Leads}
 use Rattle.machine.specs.Claims.{Laws, Resumes, Bounded}
@@ -107,20 +107,20 @@ module _ (M : Machine) where
 module _ (M : Machine) (L : Laws M) where
   -- steps over a view are steps over each view that extends it
   walk-stable : (f : M .Fixed) (v w : M .View) → M .Extends f v w → (n : ℕ) (s t : M .State) → L .Holds f s →
-      walk (M .step f v) n s ≡ moved t → walk (M .step f w) n s ≡ moved t
-  unfolding walk andThen
+      iterate (M .step f v) n s ≡ moved t → iterate (M .step f w) n s ≡ moved t
+  unfolding iterate andThen
   walk-stable f v w x zero s t k h = h
   walk-stable f v w x (suc n) s t k h = go (M .step f v s) refl (walk-stable f v w x n) h
     where
       go : (o : Outcome (M .State)) → M .step f v s ≡ o →
-          ((s t : M .State) → L .Holds f s → walk (M .step f v) n s ≡ moved t → walk (M .step f w) n s ≡ moved t) →
-          andThen o (walk (M .step f v) n) ≡ moved t → andThen (M .step f w s) (walk (M .step f w) n) ≡ moved t
+          ((s t : M .State) → L .Holds f s → iterate (M .step f v) n s ≡ moved t → iterate (M .step f w) n s ≡ moved t) →
+          andThen o (iterate (M .step f v) n) ≡ moved t → andThen (M .step f w s) (iterate (M .step f w) n) ≡ moved t
       go (moved u) e ih g = rw (L .stable f v w s u k x e) (ih u t (L .kept f v s u k e) g)
       go (stopped a) e ih g = never g
 
-  -- calls that d may follow are together a walk over d's view
+  -- calls that d may follow are together a iterate over d's view
   carried : (d : Call M) (rs : List (Report M)) (s : M .State) → Chain M rs s → Each (λ c. Follows M c d) (passed M rs s) →
-      walk (stepAt M d) (total M rs) s ≡ moved (final M rs s)
+      iterate (stepAt M d) (total M rs) s ≡ moved (final M rs s)
   unfolding Chain passed total final keepIf Each
   carried d [] s k h = walk-zero (stepAt M d) s
   carried d (r ∷ rs) s k h = go (doorAt M (r .made) s) refl (carried d rs (r .got .state) (k .1)) h
@@ -130,9 +130,9 @@ module _ (M : Machine) (L : Laws M) where
 
       go : (o : Door) → doorAt M c s ≡ o →
           (Each (λ c. Follows M c d) (passed M rs (r .got .state)) →
-          walk (stepAt M d) (total M rs) (r .got .state) ≡ moved (final M rs (r .got .state))) →
+          iterate (stepAt M d) (total M rs) (r .got .state) ≡ moved (final M rs (r .got .state))) →
           Each (λ c. Follows M c d) (keepIf o c (passed M rs (r .got .state))) →
-          walk (stepAt M d) (r .got .steps + total M rs) s ≡ moved (final M rs (r .got .state))
+          iterate (stepAt M d) (r .got .steps + total M rs) s ≡ moved (final M rs (r .got .state))
       go accepted e ih h =
           walk-add (stepAt M d) (r .got .steps) (total M rs) s
           (rw (← h .0 .same)

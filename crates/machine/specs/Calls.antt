@@ -4,7 +4,7 @@ use mathlib.Core.Path.{_≡_}
 use mathlib.Core.List.{List, [], _∷_}
 use mathlib.Core.Option.{Option, none, some}
 use Rattle.units.specs.declared.Answer.{Answer}
-use Rattle.machine.specs.Steps.{Outcome, moved, Ran, walk, run, Stops}
+use Rattle.machine.specs.Steps.{Outcome, moved, Ran, iterate, run, Stops}
 
 -- "a call is accepted if it passes the door"
 pub data Door : Type 0 where
@@ -108,4 +108,4 @@ module _ (M : Machine) where
   -- all three are as at the start"
   unfoldable pub Leads : Option (Call M) → ℕ → M .State → M .State → Type 0
   Leads none n s t = (n ≡ 0) × (t ≡ s)
-  Leads (some c) n s t = walk (stepAt c) n s ≡ moved t
+  Leads (some c) n s t = iterate (stepAt c) n s ≡ moved t

@@ -23,9 +23,9 @@ module _ {S : Type 0} where
   andThen (stopped a) next = stopped a
 
   -- "n steps have no budget, and none of them meets a stop": then `moved t`, t being what they leave; else the first stop
-  unfoldable pub walk : (S → Outcome S) → ℕ → S → Outcome S
-  walk step zero s = moved s
-  walk step (suc n) s = andThen (step s) (walk step n)
+  unfoldable pub iterate : (S → Outcome S) → ℕ → S → Outcome S
+  iterate step zero s = moved s
+  iterate step (suc n) s = andThen (step s) (iterate step n)
 
   unfoldable pub oneMore : Ran S → Ran S
   oneMore r = record { answer = r .answer; steps = suc (r .steps); state = r .state }
@@ -42,5 +42,5 @@ module _ {S : Type 0} where
 -- "stops exactly where document 01's rules first stop it under its own budget, with that rule's number": all steps reported are done, and then the
 -- budget b is spent, or it is not and a rule stops the next step with the answer
 pub record Stops {S : Type 0} (step : S → Outcome S) (b : ℕ) (s : S) (r : Ran S) : Type 0 where
-  pub walked : walk step (r .steps) s ≡ moved (r .state)
+  pub walked : iterate step (r .steps) s ≡ moved (r .state)
   pub first : ((r .steps ≡ b) × (r .answer ≡ BudgetSpent)) ⊎ ((r .steps < b) × (step (r .state) ≡ stopped (r .answer)))

@@ -1,64 +1,40 @@
-// What other programs link: the C functions of include/swistopal.h. Each calls the function of its layer and gives that answer's number.
+// What other programs link: the operations of include/swistopal.h. Each calls the function of its layer and gives that answer's number. A struct of the
+// header is a lent array here.
 ghost use mathlib.Core.Path.{_≡_};
-ghost use mathlib.Core.List.{_∷_};
-ghost use Rattle.commit_log.specs.Log.{appended, entryIn};
-ghost use Rattle.consume_queue.specs.Queue.{queueRead};
-ghost use Rattle.index_query.specs.Query.{queried};
+ghost use Rattle.record_writer.specs.Encode.{partsOf};
 ghost use Rattle.listing.specs.Listing.{listing};
-ghost use Rattle.swistopal.specs.Interface.{position, offset, geometry, sizes, fields, tagAsked, append, readRecord, numbersFrom, stateIn, dispatch, readQueue, query, list};
-ghost use Rattle.machine.specs.Calls.{call};
-ghost use Rattle.dispatch.specs.Dispatch.{dispatcher, callOf};
-use commit_log::Geometry;
+ghost use Rattle.swistopal.specs.Interface.{Appends, readRecord, lent, callIn, Dispatches, tagAsked, readQueue, query, list};
 use consume_queue::Tag;
 use dispatch_step::Progress;
-use dispatch_step::Sizes;
-use index_file::IndexSizes;
-use record::Fields;
 use units::LogPosition;
 use units::QueueOffset;
 
 #[no_mangle]
 pub extern "C" fn swistopal_append(
     log: &mut [u8],
-    segment_size: u64,
-    first_position: u64,
-    body_crc: u32,
-    queue_id: u32,
-    flag: u32,
-    queue_offset: u64,
-    system_flag: u32,
-    born_time: u64,
-    born_host: u64,
-    store_time: u64,
-    store_host: u64,
-    reconsume_times: u32,
-    prepared_offset: u64,
+    sizes: &[u64; 5],
+    fields: &[u64; 9],
+    born_host: &[u8],
+    store_host: &[u8],
     body: &[u8],
     topic: &[u8],
     properties: &[u8],
     write_position: &mut u64,
 ) -> u32
-    ensures { λ r. ⌜ record { answer = r; log = now (log .exit); «write_position» = now («write_position» .exit) } ≡ append (appended (now (log .entry)) (geometry «segment_size» «first_position») (position (now («write_position» .entry))) (fields «body_crc» «queue_id» flag «queue_offset» «system_flag» «born_time» «born_host» «store_time» «store_host» «reconsume_times» «prepared_offset») (now (body .entry)) (now (topic .entry)) (now (properties .entry))) ⌝ }
+    ensures { λ r. ⌜ Appends (now (sizes .entry)) (now (fields .entry)) (partsOf (now («born_host» .entry)) (now («store_host» .entry)) (now (body .entry)) (now (topic .entry)) (now (properties .entry))) (now (log .entry)) (now («write_position» .entry)) r (now (log .exit)) (now («write_position» .exit)) ⌝ }
 {
-    let geometry = Geometry {
-        segment_size,
-        first_position,
-    };
-    let fields = Fields {
-        body_crc,
-        queue_id,
-        flag,
-        queue_offset: QueueOffset(queue_offset),
-        system_flag,
-        born_time,
-        born_host,
-        store_time,
-        store_host,
-        reconsume_times,
-        prepared_offset,
-    };
     let w = LogPosition(*write_position);
-    let made = commit_log::append(log, geometry, w, fields, body, topic, properties);
+    let made = commit_log::append(
+        log,
+        interface::geometry_in(sizes),
+        w,
+        interface::fields_in(fields),
+        born_host,
+        store_host,
+        body,
+        topic,
+        properties,
+    );
     let answer = made.answer;
     *write_position = made.write_position.0;
     answer.number()
@@ -67,124 +43,54 @@ pub extern "C" fn swistopal_append(
 #[no_mangle]
 pub extern "C" fn swistopal_read_record(
     log: &[u8],
-    segment_size: u64,
-    first_position: u64,
+    sizes: &[u64; 5],
     position: u64,
     readable_end: u64,
-    out: &mut [u64; 17],
+    record: &mut [u64; 22],
 ) -> u32
-    ensures { λ r. ⌜ record { answer = r; out = now (out .exit) } ≡ readRecord (entryIn (now (log .entry)) (geometry «segment_size» «first_position») (record { 0 = position }) (record { 0 = «readable_end» })) ⌝ }
+    ensures { λ r. ⌜ record { answer = r; «record» = now («record» .exit) } ≡ readRecord (now (sizes .entry)) (now (log .entry)) position «readable_end» ⌝ }
 {
-    let geometry = Geometry {
-        segment_size,
-        first_position,
-    };
     let answer = commit_log::read_record(
         log,
-        geometry,
+        interface::geometry_in(sizes),
         LogPosition(position),
         LogPosition(readable_end),
-        out,
+        record,
     );
     answer.number()
-}
-
-// The entry counts in a progress.
-fn counts_in(progress: &[u64; 17]) -> [u64; 16]
-    ensures { λ r. ⌜ r ≡ numbersFrom 16 1 (now (progress .entry)) ⌝ }
-{
-    [
-        progress[1],
-        progress[2],
-        progress[3],
-        progress[4],
-        progress[5],
-        progress[6],
-        progress[7],
-        progress[8],
-        progress[9],
-        progress[10],
-        progress[11],
-        progress[12],
-        progress[13],
-        progress[14],
-        progress[15],
-        progress[16],
-    ]
-}
-
-// The progress of a position and entry counts.
-fn put_progress(progress: &mut [u64; 17], position: LogPosition, counts: &[u64; 16])
-    ensures { λ _. ⌜ now (progress .exit) ≡ position .0 ∷ numbersFrom 16 0 (now (counts .entry)) ⌝ }
-{
-    *progress = [
-        position.0,
-        counts[0],
-        counts[1],
-        counts[2],
-        counts[3],
-        counts[4],
-        counts[5],
-        counts[6],
-        counts[7],
-        counts[8],
-        counts[9],
-        counts[10],
-        counts[11],
-        counts[12],
-        counts[13],
-        counts[14],
-        counts[15],
-    ];
 }
 
 #[no_mangle]
 pub extern "C" fn swistopal_dispatch(
     log: &[u8],
-    segment_size: u64,
-    first_position: u64,
     readable_end: u64,
+    sizes: &[u64; 5],
     directory: &[u8],
-    queue_entries: u64,
     queues: &mut [u8],
-    slot_count: u64,
-    item_count: u64,
-    index: &mut [u8],
+    files: &mut [u8],
     budget: u64,
     progress: &mut [u64; 17],
     steps: &mut u64,
 ) -> u32
-    ensures { λ r. ⌜ record { answer = r; steps = now (steps .exit); progress = now (progress .exit); queues = now (queues .exit); index = now (index .exit) } ≡ dispatch (call dispatcher (callOf (sizes «segment_size» «first_position» «queue_entries» «slot_count» «item_count») (now (directory .entry)) (now (log .entry)) (position «readable_end») budget) (stateIn (now (progress .entry)) (now (queues .entry)) (now (index .entry)))) ⌝ }
+    ensures { λ r. ⌜ Dispatches (callIn (now (sizes .entry)) (now (directory .entry)) (now (log .entry)) «readable_end» budget) (lent (now (progress .entry)) (now (queues .entry)) (now (files .entry))) r (now (steps .exit)) (lent (now (progress .exit)) (now (queues .exit)) (now (files .exit))) ⌝ }
 {
-    let sizes = Sizes {
-        geometry: Geometry {
-            segment_size,
-            first_position,
-        },
-        entries: queue_entries,
-        index: IndexSizes {
-            slot_count,
-            item_count,
-        },
-    };
     let now = Progress {
         position: LogPosition(progress[0]),
     };
-    let mut counts = counts_in(progress);
+    let mut counts = interface::counts_in(progress);
     let made = dispatch::dispatch(
         log,
         LogPosition(readable_end),
-        sizes,
+        interface::sizes_in(sizes),
         directory,
         now,
         &mut counts,
         queues,
-        index,
+        files,
         budget,
     );
     let answer = made.answer;
-    let position = made.progress.position;
-    put_progress(progress, position, &counts);
+    interface::put_progress(progress, made.progress, &counts);
     *steps = made.steps;
     answer.number()
 }
@@ -202,9 +108,9 @@ fn tag_asked(given: u32, code: u64) -> Tag
 #[no_mangle]
 pub extern "C" fn swistopal_read_queue(
     queues: &[u8],
-    queue_entries: u64,
+    sizes: &[u64; 5],
     directory: &[u8],
-    counts: &[u64; 16],
+    progress: &[u64; 17],
     row: u64,
     start: u64,
     wanted: u64,
@@ -213,14 +119,15 @@ pub extern "C" fn swistopal_read_queue(
     out: &mut [u64],
     found: &mut u64,
 ) -> u32
-    ensures { λ r. ⌜ record { answer = r; out = now (out .exit); found = now (found .exit) } ≡ readQueue (queueRead (now (queues .entry)) «queue_entries» (now (directory .entry)) (now (counts .entry)) row (offset start) wanted (tagAsked «tag_given» «tag_code») (now (out .entry))) ⌝ }
+    ensures { λ r. ⌜ record { answer = r; out = now (out .exit); found = now (found .exit) } ≡ readQueue (now (queues .entry)) (now (sizes .entry)) (now (directory .entry)) (now (progress .entry)) row start wanted (tagAsked «tag_given» «tag_code») (now (out .entry)) ⌝ }
 {
+    let counts = interface::counts_in(progress);
     let tag = tag_asked(tag_given, tag_code);
     let made = consume_queue::read_queue(
         queues,
-        queue_entries,
+        sizes[2],
         directory,
-        counts,
+        &counts,
         row,
         QueueOffset(start),
         wanted,
@@ -235,25 +142,29 @@ pub extern "C" fn swistopal_read_queue(
 #[no_mangle]
 pub extern "C" fn swistopal_query(
     index: &[u8],
-    slot_count: u64,
-    item_count: u64,
+    sizes: &[u64; 5],
     topic: &[u8],
     key: &[u8],
     first_time: u64,
     last_time: u64,
     wanted: u64,
     out: &mut [u64],
-    counts: &mut [u64; 2],
+    found: &mut [u64; 2],
 ) -> u32
-    ensures { λ r. ⌜ record { answer = r; out = now (out .exit); counts = now (counts .exit) } ≡ query (queried «slot_count» «item_count» (now (index .entry)) (now (topic .entry)) (now (key .entry)) «first_time» «last_time» wanted (now (out .entry))) ⌝ }
+    ensures { λ r. ⌜ record { answer = r; out = now (out .exit); found = now (found .exit) } ≡ query (now (sizes .entry)) (now (index .entry)) (now (topic .entry)) (now (key .entry)) «first_time» «last_time» wanted (now (out .entry)) ⌝ }
 {
-    let sizes = IndexSizes {
-        slot_count,
-        item_count,
-    };
-    let made = index_query::query(index, sizes, topic, key, first_time, last_time, wanted, out);
+    let made = index_query::query(
+        index,
+        interface::index_sizes_in(sizes),
+        topic,
+        key,
+        first_time,
+        last_time,
+        wanted,
+        out,
+    );
     let answer = made.answer;
-    *counts = [made.found, made.read];
+    *found = [made.found, made.read];
     answer.number()
 }
 

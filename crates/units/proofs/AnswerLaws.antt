@@ -5,7 +5,7 @@ use mathlib.Core.List.{List, [], _∷_}
 use native.Mathlib.Omega.{arith}
 use lib.ListN.{length}
 use Rattle.units.specs.declared.Answer.{Answer}
-use Rattle.units.specs.declared.Answer.the-variants.{Done, BadSizes, BadPosition, BadDirectory, BadIndexHeader, BadRequest, LogFull, Rolled, Unreadable, BudgetSpent, Damaged, QueueUnlisted, QueueOutOfStep, QueueFull, IndexFull, IndexAhead, ChainBroken, BadQuery}
+use Rattle.units.specs.declared.Answer.the-variants.{Done, BadSizes, BadPosition, BadDirectory, BadHeader, BadRequest, LogFull, BlankWritten, NotReadable, BudgetSpent, Damaged, QueueNotListed, OutOfStep, QueueFull, IndexFull, IndexAhead, ChainBroken, Malformed}
 use Rattle.units.specs.declared.Numbered.the-variants.{Known, Unknown}
 use Rattle.units.specs.Answers.{numberOf, answers, rowAt, answerOf}
 use Rattle.units.specs.Claims.{AnswerNumber, NumberAnswer}
@@ -31,20 +31,20 @@ answer-number Done = refl
 answer-number BadSizes = refl
 answer-number BadPosition = refl
 answer-number BadDirectory = refl
-answer-number BadIndexHeader = refl
+answer-number BadHeader = refl
 answer-number BadRequest = refl
 answer-number LogFull = refl
-answer-number Rolled = refl
-answer-number Unreadable = refl
+answer-number BlankWritten = refl
+answer-number NotReadable = refl
 answer-number BudgetSpent = refl
 answer-number Damaged = refl
-answer-number QueueUnlisted = refl
-answer-number QueueOutOfStep = refl
+answer-number QueueNotListed = refl
+answer-number OutOfStep = refl
 answer-number QueueFull = refl
 answer-number IndexFull = refl
 answer-number IndexAhead = refl
 answer-number ChainBroken = refl
-answer-number BadQuery = refl
+answer-number Malformed = refl
 
 -- each row's number is one more than the row's before
 abbrev Ordered : ℕ → List Answer → Type 0

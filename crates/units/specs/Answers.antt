@@ -2,7 +2,7 @@
 use Prim.Native.Nat.{ℕ, zero, suc}
 use mathlib.Core.List.{List, [], _∷_}
 use Rattle.units.specs.declared.Answer.{Answer}
-use Rattle.units.specs.declared.Answer.the-variants.{Done, BadSizes, BadPosition, BadDirectory, BadIndexHeader, BadRequest, LogFull, Rolled, Unreadable, BudgetSpent, Damaged, QueueUnlisted, QueueOutOfStep, QueueFull, IndexFull, IndexAhead, ChainBroken, BadQuery}
+use Rattle.units.specs.declared.Answer.the-variants.{Done, BadSizes, BadPosition, BadDirectory, BadHeader, BadRequest, LogFull, BlankWritten, NotReadable, BudgetSpent, Damaged, QueueNotListed, OutOfStep, QueueFull, IndexFull, IndexAhead, ChainBroken, Malformed}
 use Rattle.units.specs.declared.Numbered.{Numbered}
 use Rattle.units.specs.declared.Numbered.the-variants.{Known, Unknown}
 
@@ -11,26 +11,26 @@ numberOf Done = 0
 numberOf BadSizes = 1
 numberOf BadPosition = 2
 numberOf BadDirectory = 3
-numberOf BadIndexHeader = 4
+numberOf BadHeader = 4
 numberOf BadRequest = 5
 numberOf LogFull = 6
-numberOf Rolled = 7
-numberOf Unreadable = 8
+numberOf BlankWritten = 7
+numberOf NotReadable = 8
 numberOf BudgetSpent = 9
 numberOf Damaged = 10
-numberOf QueueUnlisted = 11
-numberOf QueueOutOfStep = 12
+numberOf QueueNotListed = 11
+numberOf OutOfStep = 12
 numberOf QueueFull = 13
 numberOf IndexFull = 14
 numberOf IndexAhead = 15
 numberOf ChainBroken = 16
-numberOf BadQuery = 17
+numberOf Malformed = 17
 
 -- the table's rows
 unfoldable pub answers : List Answer
 answers =
-    Done ∷ BadSizes ∷ BadPosition ∷ BadDirectory ∷ BadIndexHeader ∷ BadRequest ∷ LogFull ∷ Rolled ∷ Unreadable ∷ BudgetSpent ∷ Damaged
-    ∷ QueueUnlisted ∷ QueueOutOfStep ∷ QueueFull ∷ IndexFull ∷ IndexAhead ∷ ChainBroken ∷ BadQuery ∷ []
+    Done ∷ BadSizes ∷ BadPosition ∷ BadDirectory ∷ BadHeader ∷ BadRequest ∷ LogFull ∷ BlankWritten ∷ NotReadable ∷ BudgetSpent ∷ Damaged
+    ∷ QueueNotListed ∷ OutOfStep ∷ QueueFull ∷ IndexFull ∷ IndexAhead ∷ ChainBroken ∷ Malformed ∷ []
 
 unfoldable pub rowAt : ℕ → List Answer → Numbered
 rowAt n [] = Unknown

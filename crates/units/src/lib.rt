@@ -25,23 +25,23 @@ pub enum Answer {
     // directory or queue buffer is bad
     BadDirectory,
     // index header is bad
-    BadIndexHeader,
+    BadHeader,
     // append request is outside the record rules
     BadRequest,
     // no room is left in the log
     LogFull,
     // blank written: try again at the new position
-    Rolled,
+    BlankWritten,
     // record is not wholly below the readable end
-    Unreadable,
+    NotReadable,
     // no step is left of the budget
     BudgetSpent,
     // record is damaged
     Damaged,
     // record's queue is not in the directory
-    QueueUnlisted,
+    QueueNotListed,
     // record's queue offset is not the queue's entry count
-    QueueOutOfStep,
+    OutOfStep,
     // queue has no entry left
     QueueFull,
     // index has no room for the record's items
@@ -51,7 +51,7 @@ pub enum Answer {
     // slot, link or item is damaged
     ChainBroken,
     // query or queue reading is malformed
-    BadQuery,
+    Malformed,
 }
 
 // The answer that a number stands for.
@@ -69,20 +69,20 @@ impl Answer {
             Answer::BadSizes => 1,
             Answer::BadPosition => 2,
             Answer::BadDirectory => 3,
-            Answer::BadIndexHeader => 4,
+            Answer::BadHeader => 4,
             Answer::BadRequest => 5,
             Answer::LogFull => 6,
-            Answer::Rolled => 7,
-            Answer::Unreadable => 8,
+            Answer::BlankWritten => 7,
+            Answer::NotReadable => 8,
             Answer::BudgetSpent => 9,
             Answer::Damaged => 10,
-            Answer::QueueUnlisted => 11,
-            Answer::QueueOutOfStep => 12,
+            Answer::QueueNotListed => 11,
+            Answer::OutOfStep => 12,
             Answer::QueueFull => 13,
             Answer::IndexFull => 14,
             Answer::IndexAhead => 15,
             Answer::ChainBroken => 16,
-            Answer::BadQuery => 17,
+            Answer::Malformed => 17,
         }
     }
 
@@ -94,20 +94,20 @@ impl Answer {
             1 => Numbered::Known(Answer::BadSizes),
             2 => Numbered::Known(Answer::BadPosition),
             3 => Numbered::Known(Answer::BadDirectory),
-            4 => Numbered::Known(Answer::BadIndexHeader),
+            4 => Numbered::Known(Answer::BadHeader),
             5 => Numbered::Known(Answer::BadRequest),
             6 => Numbered::Known(Answer::LogFull),
-            7 => Numbered::Known(Answer::Rolled),
-            8 => Numbered::Known(Answer::Unreadable),
+            7 => Numbered::Known(Answer::BlankWritten),
+            8 => Numbered::Known(Answer::NotReadable),
             9 => Numbered::Known(Answer::BudgetSpent),
             10 => Numbered::Known(Answer::Damaged),
-            11 => Numbered::Known(Answer::QueueUnlisted),
-            12 => Numbered::Known(Answer::QueueOutOfStep),
+            11 => Numbered::Known(Answer::QueueNotListed),
+            12 => Numbered::Known(Answer::OutOfStep),
             13 => Numbered::Known(Answer::QueueFull),
             14 => Numbered::Known(Answer::IndexFull),
             15 => Numbered::Known(Answer::IndexAhead),
             16 => Numbered::Known(Answer::ChainBroken),
-            17 => Numbered::Known(Answer::BadQuery),
+            17 => Numbered::Known(Answer::Malformed),
             18..=4294967295 => Numbered::Unknown,
         }
     }

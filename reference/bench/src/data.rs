@@ -1,5 +1,6 @@
 //! Records, logs and stores to measure on. The same numbers in each run.
 
+use crate::archive::{Fields, Progress, Sizes};
 use crate::store::{Filed, Index, Log, Message, ARCHIVE};
 
 pub const TOPIC: &[u8] = b"parcel-events";
@@ -8,6 +9,10 @@ const SEGMENT: u64 = 64 << 20;
 const FIRST_TIME: u64 = 1_700_000_000_000;
 const TAGS: [&str; 4] = ["RUSH", "SLOW", "COLD", "BULK"];
 const BODY: usize = 100;
+
+/// 10.0.0.1:10911 and 10.0.0.2:10911.
+const BORN_HOST: [u8; 8] = [10, 0, 0, 1, 0, 0, 0x2A, 0x9F];
+const STORE_HOST: [u8; 8] = [10, 0, 0, 2, 0, 0, 0x2A, 0x9F];
 
 /// Which keys the records have, beside a unique key of 32 bytes.
 #[derive(Clone, Copy)]
@@ -83,12 +88,28 @@ fn properties_of(i: u64, keys: Keys) -> Vec<u8> {
 /// The message of record i, of which nothing else is known.
 pub fn message(i: u64, keys: Keys, body: usize) -> Message {
     Message {
-        queue_id: 0,
-        queue_offset: 0,
-        store_time: FIRST_TIME + 3 * i,
+        fields: fields_of(i, 0, 0),
+        born_host: BORN_HOST,
+        store_host: STORE_HOST,
         body: (0..body).map(|at| mixed(i ^ at as u64) as u8).collect(),
         topic: TOPIC.to_vec(),
         properties: properties_of(i, keys),
+    }
+}
+
+/// The numbers of record i.
+fn fields_of(i: u64, queue_id: u64, queue_offset: u64) -> Fields {
+    let time = FIRST_TIME + 3 * i;
+    Fields {
+        body_crc: 0x1234_5678,
+        queue_id,
+        flag: 7,
+        queue_offset,
+        system_flag: 0,
+        born_time: time,
+        store_time: time,
+        reconsume_times: 0,
+        prepared_offset: 0,
     }
 }
 
@@ -96,19 +117,16 @@ pub fn message(i: u64, keys: Keys, body: usize) -> Message {
 pub fn written(records: u64, queues: u64, keys: Keys) -> Written {
     let longest = 91 + BODY + TOPIC.len() + properties_of(1, keys).len() + 16;
     let segments = (records * longest as u64).div_ceil(SEGMENT - longest as u64);
-    let mut log = Log {
-        bytes: vec![0; (segments * SEGMENT) as usize],
-        segment_size: SEGMENT,
-    };
+    let mut log = Log::new((segments * SEGMENT) as usize, SEGMENT);
     let mut counts = vec![0; queues as usize];
     let mut end = 0;
     let body = message(0, keys, BODY).body;
     for i in 0..records {
         let queue = mixed(i) % queues;
         let message = Message {
-            queue_id: queue as u32,
-            queue_offset: counts[queue as usize],
-            store_time: FIRST_TIME + 3 * i,
+            fields: fields_of(i, queue, counts[queue as usize]),
+            born_host: BORN_HOST,
+            store_host: STORE_HOST,
             body: body.clone(),
             topic: TOPIC.to_vec(),
             properties: properties_of(i, keys),
@@ -144,19 +162,33 @@ pub fn entries_for(records: u64, queues: u64) -> u64 {
 
 pub fn index(slot_count: u64, item_count: u64) -> Index {
     Index {
-        slot_count,
-        item_count,
+        sizes: Sizes {
+            slot_count,
+            item_count,
+            ..Sizes::default()
+        },
         bytes: vec![0; (40 + 4 * slot_count + 20 * item_count) as usize],
     }
 }
 
-/// Empty queues and an empty index.
-pub fn filed(directory: Vec<u8>, queues: u64, queue_entries: u64, index: Index) -> Filed {
+/// Empty queues and an empty index for what a log holds.
+pub fn filed(
+    log: &Log,
+    directory: Vec<u8>,
+    queues: u64,
+    queue_entries: u64,
+    index: Index,
+) -> Filed {
     Filed {
         directory,
-        queue_entries,
+        sizes: Sizes {
+            segment_size: log.sizes.segment_size,
+            first_position: log.sizes.first_position,
+            queue_entries,
+            ..index.sizes
+        },
         queues: vec![0; (queues * queue_entries * 20) as usize],
         index,
-        progress: [0; 17],
+        progress: Progress::default(),
     }
 }

@@ -1,25 +1,18 @@
 //! The operations behind one set of signatures, those of the C interface: each side is a table of functions, and what
 //! calls them is the same code for every side.
 
-use crate::archive;
+use crate::archive::{self, Fields, Found, Place, Progress, Record, Sizes};
 use crate::plain;
 
 pub type Append = unsafe extern "C" fn(
     *mut u8,
     usize,
-    u64,
-    u64,
-    u32,
-    u32,
-    u32,
-    u64,
-    u32,
-    u64,
-    u64,
-    u64,
-    u64,
-    u32,
-    u64,
+    *const Sizes,
+    *const Fields,
+    *const u8,
+    usize,
+    *const u8,
+    usize,
     *const u8,
     usize,
     *const u8,
@@ -29,35 +22,32 @@ pub type Append = unsafe extern "C" fn(
     *mut u64,
 ) -> u32;
 
-pub type ReadRecord = unsafe extern "C" fn(*const u8, usize, u64, u64, u64, u64, *mut u64) -> u32;
+pub type ReadRecord =
+    unsafe extern "C" fn(*const u8, usize, *const Sizes, u64, u64, *mut Record) -> u32;
 
 pub type Dispatch = unsafe extern "C" fn(
     *const u8,
     usize,
     u64,
-    u64,
-    u64,
+    *const Sizes,
     *const u8,
     usize,
-    u64,
+    *mut u8,
+    usize,
     *mut u8,
     usize,
     u64,
-    u64,
-    *mut u8,
-    usize,
-    u64,
-    *mut u64,
+    *mut Progress,
     *mut u64,
 ) -> u32;
 
 pub type ReadQueue = unsafe extern "C" fn(
     *const u8,
     usize,
-    u64,
+    *const Sizes,
     *const u8,
     usize,
-    *const u64,
+    *const Progress,
     u64,
     u64,
     u64,
@@ -71,8 +61,7 @@ pub type ReadQueue = unsafe extern "C" fn(
 pub type Query = unsafe extern "C" fn(
     *const u8,
     usize,
-    u64,
-    u64,
+    *const Sizes,
     *const u8,
     usize,
     *const u8,
@@ -82,7 +71,7 @@ pub type Query = unsafe extern "C" fn(
     u64,
     *mut u64,
     usize,
-    *mut u64,
+    *mut Found,
 ) -> u32;
 
 /// One side.
@@ -122,17 +111,31 @@ pub const BYTEWISE: Store = Store {
     ..PLAIN
 };
 
-/// A log and how it is divided. Its first position is 0.
+/// A log and how it is divided.
 pub struct Log {
     pub bytes: Vec<u8>,
-    pub segment_size: u64,
+    /// S and B; a call that takes only a log looks at no other.
+    pub sizes: Sizes,
+}
+
+impl Log {
+    /// A log of zeros from position 0.
+    pub fn new(length: usize, segment_size: u64) -> Log {
+        Log {
+            bytes: vec![0; length],
+            sizes: Sizes {
+                segment_size,
+                ..Sizes::default()
+            },
+        }
+    }
 }
 
 /// What an append is asked to write.
 pub struct Message {
-    pub queue_id: u32,
-    pub queue_offset: u64,
-    pub store_time: u64,
+    pub fields: Fields,
+    pub born_host: [u8; 8],
+    pub store_host: [u8; 8],
     pub body: Vec<u8>,
     pub topic: Vec<u8>,
     pub properties: Vec<u8>,
@@ -141,17 +144,47 @@ pub struct Message {
 /// Directory, queues and index, and how far dispatch has come.
 pub struct Filed {
     pub directory: Vec<u8>,
-    pub queue_entries: u64,
+    /// The log's too.
+    pub sizes: Sizes,
     pub queues: Vec<u8>,
     pub index: Index,
-    pub progress: [u64; 17],
+    pub progress: Progress,
 }
 
 pub struct Index {
-    pub slot_count: u64,
-    pub item_count: u64,
+    /// K and N; a call that takes only an index looks at no other.
+    pub sizes: Sizes,
     pub bytes: Vec<u8>,
 }
+
+/// What a record holds that was not read.
+pub const UNREAD: Record = {
+    let place = Place {
+        at: u64::MAX,
+        length: u64::MAX,
+    };
+    Record {
+        kind: u64::MAX,
+        total: u64::MAX,
+        position: u64::MAX,
+        fields: Fields {
+            body_crc: u64::MAX,
+            queue_id: u64::MAX,
+            flag: u64::MAX,
+            queue_offset: u64::MAX,
+            system_flag: u64::MAX,
+            born_time: u64::MAX,
+            store_time: u64::MAX,
+            reconsume_times: u64::MAX,
+            prepared_offset: u64::MAX,
+        },
+        born_host: place,
+        store_host: place,
+        body: place,
+        topic: place,
+        properties: place,
+    }
+};
 
 /// What a query asks beside topic and key.
 pub struct Range {
@@ -168,19 +201,12 @@ impl Store {
             (self.append)(
                 log.bytes.as_mut_ptr(),
                 log.bytes.len(),
-                log.segment_size,
-                0,
-                0x1234_5678,
-                message.queue_id,
-                7,
-                message.queue_offset,
-                0,
-                message.store_time,
-                0x0A00_0001_0000_2A9F,
-                message.store_time,
-                0x0A00_0002_0000_2A9F,
-                0,
-                0,
+                &log.sizes,
+                &message.fields,
+                message.born_host.as_ptr(),
+                message.born_host.len(),
+                message.store_host.as_ptr(),
+                message.store_host.len(),
                 message.body.as_ptr(),
                 message.body.len(),
                 message.topic.as_ptr(),
@@ -198,17 +224,16 @@ impl Store {
         log: &Log,
         position: u64,
         readable_end: u64,
-        out: &mut [u64; 17],
+        record: &mut Record,
     ) -> u32 {
         unsafe {
             (self.read_record)(
                 log.bytes.as_ptr(),
                 log.bytes.len(),
-                log.segment_size,
-                0,
+                &log.sizes,
                 position,
                 readable_end,
-                out.as_mut_ptr(),
+                record,
             )
         }
     }
@@ -227,20 +252,16 @@ impl Store {
             (self.dispatch)(
                 log.bytes.as_ptr(),
                 log.bytes.len(),
-                log.segment_size,
-                0,
                 readable_end,
+                &filed.sizes,
                 filed.directory.as_ptr(),
                 filed.directory.len(),
-                filed.queue_entries,
                 filed.queues.as_mut_ptr(),
                 filed.queues.len(),
-                filed.index.slot_count,
-                filed.index.item_count,
                 filed.index.bytes.as_mut_ptr(),
                 filed.index.bytes.len(),
                 budget,
-                filed.progress.as_mut_ptr(),
+                &mut filed.progress,
                 &mut steps,
             )
         };
@@ -263,10 +284,10 @@ impl Store {
             (self.read_queue)(
                 filed.queues.as_ptr(),
                 filed.queues.len(),
-                filed.queue_entries,
+                &filed.sizes,
                 filed.directory.as_ptr(),
                 filed.directory.len(),
-                filed.progress[1..].as_ptr(),
+                &filed.progress,
                 row,
                 start,
                 wanted,
@@ -280,7 +301,7 @@ impl Store {
         (answer, found)
     }
 
-    /// The answer, the number found and the items read.
+    /// The answer, and the positions found and items read.
     #[inline(always)]
     pub fn query(
         &self,
@@ -289,14 +310,13 @@ impl Store {
         key: &[u8],
         range: &Range,
         out: &mut [u64],
-    ) -> (u32, [u64; 2]) {
-        let mut counts = [0; 2];
+    ) -> (u32, Found) {
+        let mut found = Found::default();
         let answer = unsafe {
             (self.query)(
                 index.bytes.as_ptr(),
                 index.bytes.len(),
-                index.slot_count,
-                index.item_count,
+                &index.sizes,
                 topic.as_ptr(),
                 topic.len(),
                 key.as_ptr(),
@@ -306,9 +326,9 @@ impl Store {
                 range.wanted,
                 out.as_mut_ptr(),
                 out.len(),
-                counts.as_mut_ptr(),
+                &mut found,
             )
         };
-        (answer, counts)
+        (answer, found)
     }
 }

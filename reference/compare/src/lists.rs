@@ -1,8 +1,9 @@
 //! Demand 3: lists of dispatch calls with growing readable ends and any budgets, refused ones between them. Each call is
 //! compared with the model; after the list, the archive is compared with itself on one call from the same start.
 
+use crate::judge::Check;
 use crate::lent::Twin;
-use crate::operations::{Bench, Check, DispatchCall};
+use crate::operations::{Bench, DispatchCall};
 use crate::random::Random;
 use crate::store::Store;
 use crate::variation::Variation;
@@ -23,7 +24,7 @@ fn refused(answer: u32) -> bool {
 pub fn run_list(bench: &mut Bench, random: &Random, store: &mut Store) -> Check<()> {
     let start = store.state.clone();
     let appended = store.log.get().to_vec();
-    let b = store.shape.b;
+    let b = store.sizes.first_position;
     let mut named_end = b;
     let mut steps_done = 0;
     let mut last_accepted: Option<Accepted> = None;

@@ -1,13 +1,19 @@
 //! Compares the archive behind the C interface with the model, scenario by scenario. Scenario i of a seed depends on
 //! nothing else, so it can be repeated alone.
 
+// The structs are lent as their numbers.
+#[allow(dead_code)]
 #[path = "../../../bindings/rust/src/archive.rs"]
 mod archive;
+mod functions;
+mod items;
+mod judge;
 mod lent;
 mod lists;
 mod messages;
 mod operations;
 mod random;
+mod requests;
 mod scenarios;
 mod store;
 mod variation;
@@ -17,7 +23,10 @@ use std::sync::atomic::{AtomicU64, Ordering};
 use std::sync::{Condvar, Mutex};
 use std::time::{Duration, Instant};
 
-use operations::{Bench, Check, Counts, Difference, Operation};
+use judge::{Check, Difference};
+use operations::{Bench, Counts, Operation};
+use random::Random;
+use requests::{Fault, SITES};
 
 const USAGE: &str = "usage: compare [--seed N] [--count N] [--only SCENARIO]";
 
@@ -66,9 +75,14 @@ fn run_scenario(bench: &mut Bench, seed: u64, scenario: u64) -> Check<()> {
     scenarios::run(bench, seed, scenario)
 }
 
+/// A generator beside the scenario's own, so that what a call does not look at changes nothing else.
+fn noise(seed: u64, scenario: u64) -> Random {
+    Random::of_scenario(!seed, scenario)
+}
+
 /// One scenario, each of its operations said.
 fn run_only(seed: u64, scenario: u64) -> ExitCode {
-    let mut bench = Bench::new(true);
+    let mut bench = Bench::new(true, noise(seed, scenario));
     match run_scenario(&mut bench, seed, scenario) {
         Ok(()) => {
             println!("scenario {scenario}: no difference");
@@ -146,7 +160,7 @@ fn work(run: &Run) -> Counts {
         if scenario >= run.limit.load(Ordering::Relaxed) {
             return counts;
         }
-        let mut bench = Bench::new(false);
+        let mut bench = Bench::new(false, noise(run.seed, scenario));
         if let Err(difference) = run_scenario(&mut bench, run.seed, scenario) {
             run.limit.fetch_min(scenario, Ordering::Relaxed);
             let mut found = run.found.lock().expect("no worker panicked");
@@ -193,20 +207,29 @@ fn say_difference(seed: u64, scenario: u64, difference: &Difference) {
     println!("this scenario alone: compare --seed {seed} --only {scenario}");
 }
 
-/// Counts by operation and answer. Fails where an operation did not reach an answer that it can give.
+/// Counts by operation and outcome. Fails where an operation did not come to an outcome that it can give, or a fault of a
+/// request was not tried alone at some place.
 fn report(counts: &Counts, count: u64, time: Duration) -> ExitCode {
     let mut missed = Vec::new();
     for operation in Operation::ALL {
         let mut line = format!("{:<12}", operation.name());
-        for answer in operation.answers() {
-            let times = counts.answers[operation as usize][*answer as usize];
-            line.push_str(&format!(" {answer}:{times}"));
+        for outcome in operation.outcomes() {
+            let times = counts.outcomes[operation as usize][*outcome as usize];
+            let name = operation.outcome_name(*outcome);
+            line.push_str(&format!(" {name}:{times}"));
             if times == 0 {
-                missed.push(format!("{} {answer}", operation.name()));
+                missed.push(format!("{} {name}", operation.name()));
             }
         }
         println!("{line}");
     }
+    println!(
+        "requests that no record can keep: {} faults, each alone at {} places, {} times and more",
+        Fault::ALL.len(),
+        SITES.len(),
+        counts.requests.least()
+    );
+    missed.extend(counts.requests.missed());
     let lists = &counts.lists;
     println!(
         "lists of dispatch calls: {} ({} calls, {} steps); {} against one call, {} against their steps, {} without an accepted \
@@ -224,7 +247,7 @@ fn report(counts: &Counts, count: u64, time: Duration) -> ExitCode {
     if missed.is_empty() {
         ExitCode::SUCCESS
     } else {
-        println!("answers not reached: {}", missed.join(", "));
+        println!("not reached: {}", missed.join(", "));
         ExitCode::FAILURE
     }
 }

@@ -46,16 +46,16 @@ pub const TAGS: [&[u8]; 8] = [
 /// A message that owns its bytes.
 #[derive(Clone)]
 pub struct Draft {
-    pub body_crc: u32,
-    pub queue_id: u32,
-    pub flag: u32,
+    pub body_crc: u64,
+    pub queue_id: u64,
+    pub flag: u64,
     pub queue_offset: u64,
-    pub system_flag: u32,
+    pub system_flag: u64,
     pub born_time: u64,
-    pub born_host: u64,
+    pub born_host: Vec<u8>,
     pub store_time: u64,
-    pub store_host: u64,
-    pub reconsume_times: u32,
+    pub store_host: Vec<u8>,
+    pub reconsume_times: u64,
     pub prepared_offset: u64,
     pub body: Vec<u8>,
     pub topic: Vec<u8>,
@@ -72,9 +72,9 @@ impl Draft {
             queue_offset: 0,
             system_flag: 0,
             born_time: 0,
-            born_host: 0,
+            born_host: vec![0; 8],
             store_time: 10_000,
-            store_host: 0,
+            store_host: vec![0; 8],
             reconsume_times: 0,
             prepared_offset: 0,
             body: Vec::new(),
@@ -91,9 +91,9 @@ impl Draft {
             queue_offset: self.queue_offset,
             system_flag: self.system_flag,
             born_time: self.born_time,
-            born_host: self.born_host,
+            born_host: &self.born_host,
             store_time: self.store_time,
-            store_host: self.store_host,
+            store_host: &self.store_host,
             reconsume_times: self.reconsume_times,
             prepared_offset: self.prepared_offset,
             body: &self.body,
@@ -121,12 +121,14 @@ impl Draft {
             1 => u64::MAX,
             _ => random.next(),
         };
-        self.body_crc = any() as u32;
-        self.flag = any() as u32;
+        let any_4 = || any() & 0xFFFF_FFFF;
+        let any_8 = || any().to_be_bytes().to_vec();
+        self.body_crc = any_4();
+        self.flag = any_4();
         self.born_time = any();
-        self.born_host = any();
-        self.store_host = any();
-        self.reconsume_times = any() as u32;
+        self.born_host = any_8();
+        self.store_host = any_8();
+        self.reconsume_times = any_4();
         self.prepared_offset = any();
     }
 }
@@ -209,6 +211,55 @@ pub fn properties(random: &Random) -> Vec<u8> {
         properties[place] = random.pick(&[1, 2, b' ', 0, 0xFF]);
     }
     properties
+}
+
+/// Properties that nobody sends: separators where none is meant, names many times, parts of nothing, any length.
+pub fn odd_properties(random: &Random) -> Vec<u8> {
+    let some = |alphabet: &[u8], most: u64| -> Vec<u8> {
+        let length = random.below(most + 1);
+        (0..length).map(|_| random.pick(alphabet)).collect()
+    };
+    match random.below(8) {
+        0 => Vec::new(),
+        1 => some(&[1, 2], 12),
+        2 => some(&[1, 2, b' '], 12),
+        3 => some(b"\x01\x02 KEYSa", 60),
+        4 | 5 => {
+            // One name in several pairs and in pieces that are none, the last of them often one that does not count.
+            let name = random.pick(&[&b"KEYS"[..], b"TAGS", b"UNIQ_KEY", b"KEY", b"UNIQ_KEYS"]);
+            let mut pieces = Vec::new();
+            for _ in 0..random.between(2, 5) {
+                let value = match random.below(5) {
+                    0 => Vec::new(),
+                    1 => some(b" ", 4),
+                    2 => some(b"\x01a ", 4),
+                    _ => keys_value(random),
+                };
+                let between =
+                    random.pick(&[&b"\x01"[..], b"\x01", b"\x01", b"\x01\x01", b"", b"="]);
+                pieces.push([name, between, &value].concat());
+            }
+            pieces.join(&2)
+        }
+        6 => {
+            // Usual ones with a byte more, less or another.
+            let mut usual = properties(random);
+            for _ in 0..random.between(1, 3) {
+                let place = random.below(usual.len() as u64 + 1) as usize;
+                let byte = random.pick(&[1, 2, b' ', b'S', 0, 0xFF]);
+                match random.below(3) {
+                    0 => usual.insert(place, byte),
+                    1 if place < usual.len() => usual[place] = byte,
+                    _ if place < usual.len() => {
+                        usual.remove(place);
+                    }
+                    _ => {}
+                }
+            }
+            usual
+        }
+        _ => properties(random),
+    }
 }
 
 /// A store time: near the one before, so that seconds repeat, grow and fall; at some rate far away.

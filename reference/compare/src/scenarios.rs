@@ -1,10 +1,15 @@
 //! The scenarios. Each has a generator of its own; most work on small stores built by appends.
 
+use model::interface::{self, Place, Record, Sizes};
+
+use crate::items::{made_by_record, made_by_records};
+use crate::judge::Check;
 use crate::lent::Twin;
 use crate::lists::run_list;
 use crate::messages::{Draft, KEYS, LARGEST_TIME, TOPICS};
-use crate::operations::{Bench, Check, DispatchCall, LogShape, Operation, Question, QueueReading};
+use crate::operations::{Bench, DispatchCall, Operation, Question, QueueReading};
 use crate::random::Random;
+use crate::requests::{requests, Fault};
 use crate::store::{row, Plan, Store, BLANK_MAGIC, LARGEST_POSITION};
 use crate::variation::Variation;
 
@@ -24,12 +29,14 @@ pub fn run(bench: &mut Bench, seed: u64, number: u64) -> Check<()> {
         return largest_record(bench);
     }
     match random.below(100) {
-        0..=43 => life(bench, random, false),
-        44..=51 => edges(bench, random),
-        52..=66 => worn_index(bench, random),
-        67..=84 => doors(bench, random),
-        85..=90 => directories(bench, random),
-        91..=98 => listings(bench, random),
+        0..=41 => life(bench, random, false),
+        42..=48 => edges(bench, random),
+        49..=62 => worn_index(bench, random),
+        63..=79 => doors(bench, random),
+        80..=84 => directories(bench, random),
+        85..=91 => listings(bench, random),
+        92..=94 => requests(bench, random),
+        95..=98 => made_by_records(bench, random),
         _ if random.one_in(3) => life(bench, random, true),
         _ => life(bench, random, false),
     }
@@ -57,7 +64,7 @@ fn life(bench: &mut Bench, random: &Random, wide: bool) -> Check<()> {
     }
     if !sound && random.one_in(5) {
         // From any progress.
-        let position = store.shape.b + random.below(store.log.len() as u64 + 1);
+        let position = store.sizes.first_position + random.below(store.log.len() as u64 + 1);
         let entry = match store.entries.as_slice() {
             [] => position,
             entries => random.pick(entries),
@@ -89,21 +96,22 @@ fn life(bench: &mut Bench, random: &Random, wide: bool) -> Check<()> {
 fn read_records(bench: &mut Bench, random: &Random, store: &Store) -> Check<()> {
     for _ in 0..random.below(8) {
         let position = match store.entries.as_slice() {
-            [] => store.shape.b,
+            [] => store.sizes.first_position,
             entries => random.pick(entries),
         };
         let position = match random.below(10) {
             0 => position + random.below(100),
-            1 => store.shape.b + random.below(store.log.len() as u64 + 1),
+            1 => store.sizes.first_position + random.below(store.log.len() as u64 + 1),
             2 => {
-                let segments = store.log.len() as u64 / store.shape.s;
-                let segment_end = store.shape.b + store.shape.s * random.between(1, segments);
+                let segments = store.log.len() as u64 / store.sizes.segment_size;
+                let segment_end = store.sizes.first_position
+                    + store.sizes.segment_size * random.between(1, segments);
                 segment_end - random.below(10)
             }
             _ => position,
         };
-        let whole = bench.read_record(&store.log, store.shape, position, store.log_end())?;
-        let length = whole.1[1];
+        let whole = bench.read_record(&store.log, &store.sizes, position, store.log_end())?;
+        let length = whole.1.total;
         let near =
             position + random.pick(&[0, 1, 7, 8, 9, 91, 92, length.max(1) - 1, length, length + 1]);
         for end in [
@@ -111,10 +119,13 @@ fn read_records(bench: &mut Bench, random: &Random, store: &Store) -> Check<()> 
             store.written_end.max(position),
             random.beside(position),
         ] {
-            bench.read_record(&store.log, store.shape, position, end)?;
+            bench.read_record(&store.log, &store.sizes, position, end)?;
         }
-        if whole.0 == 0 && whole.1[0] == 1 && random.one_in(3) {
+        if whole.1.kind == interface::RECORD && random.one_in(3) {
             append_again(bench, store, position, &whole.1)?;
+            let own = &store.log.get()[store.place(position)..];
+            let (topic, properties) = (part(own, whole.1.topic), part(own, whole.1.properties));
+            made_by_record(bench, random, whole.1.fields.system_flag, topic, properties)?;
         }
     }
     Ok(())
@@ -154,7 +165,7 @@ fn edges(bench: &mut Bench, random: &Random) -> Check<()> {
             room,
         ] {
             let readable_end = position + length.min(room);
-            bench.read_record(&store.log, store.shape, position, readable_end)?;
+            bench.read_record(&store.log, &store.sizes, position, readable_end)?;
             let mut state = store.state.clone();
             state.progress.set(0, &[position]);
             let call = DispatchCall {
@@ -167,39 +178,45 @@ fn edges(bench: &mut Bench, random: &Random) -> Check<()> {
     Ok(())
 }
 
+/// The bytes at a place of a record.
+fn part(own: &[u8], place: Place) -> &[u8] {
+    &own[place.at as usize..][..place.length as usize]
+}
+
 /// "a sound record appended again at its place gives its own bytes".
-fn append_again(bench: &mut Bench, store: &Store, position: u64, fields: &[u64; 17]) -> Check<()> {
-    let at = store.place(position);
-    let [b, t, q] = [
-        fields[14] as usize,
-        fields[15] as usize,
-        fields[16] as usize,
-    ];
+fn append_again(bench: &mut Bench, store: &Store, position: u64, record: &Record) -> Check<()> {
     let bytes = store.log.get();
+    let own = &bytes[store.place(position)..];
+    let fields = &record.fields;
     let draft = Draft {
-        body_crc: fields[2] as u32,
-        queue_id: fields[3] as u32,
-        flag: fields[4] as u32,
-        queue_offset: fields[5],
-        system_flag: fields[7] as u32,
-        born_time: fields[8],
-        born_host: fields[9],
-        store_time: fields[10],
-        store_host: fields[11],
-        reconsume_times: fields[12] as u32,
-        prepared_offset: fields[13],
-        body: bytes[at + 88..at + 88 + b].to_vec(),
-        topic: bytes[at + 89 + b..at + 89 + b + t].to_vec(),
-        properties: bytes[at + 91 + b + t..at + 91 + b + t + q].to_vec(),
+        body_crc: fields.body_crc,
+        queue_id: fields.queue_id,
+        flag: fields.flag,
+        queue_offset: fields.queue_offset,
+        system_flag: fields.system_flag,
+        born_time: fields.born_time,
+        born_host: part(own, record.born_host).to_vec(),
+        store_time: fields.store_time,
+        store_host: part(own, record.store_host).to_vec(),
+        reconsume_times: fields.reconsume_times,
+        prepared_offset: fields.prepared_offset,
+        body: part(own, record.body).to_vec(),
+        topic: part(own, record.topic).to_vec(),
+        properties: part(own, record.properties).to_vec(),
     };
     let mut log = store.log.clone();
     let mut write_position = position;
-    let answer = bench.append(&mut log, store.shape, &draft.message(), &mut write_position)?;
+    let answer = bench.append(
+        &mut log,
+        &store.sizes,
+        &draft.message(),
+        &mut write_position,
+    )?;
     let call = format!("append again of the record read at {position}");
     let expect =
         |field, archive, expected| bench.expect(Operation::Append, &call, field, archive, expected);
     expect("answer", u64::from(answer), 0)?;
-    expect("write_position", write_position, position + fields[1])?;
+    expect("write_position", write_position, position + record.total)?;
     let changed = log.get().iter().zip(bytes).filter(|(new, old)| new != old);
     expect("bytes changed", changed.count() as u64, 0)
 }
@@ -220,11 +237,11 @@ fn queue_reading<'a>(random: &Random, store: &'a Store, mut counts: [u64; 16]) -
     if random.one_in(3) {
         // Entries that nobody dispatched are read as they stand.
         let row = random.below(rows.max(row.saturating_add(1).min(16))) as usize;
-        counts[row] = random.between(0, store.queue_entries);
+        counts[row] = random.between(0, store.sizes.queue_entries);
     }
     if random.one_in(20) {
         counts[random.below(16) as usize] =
-            random.pick(&[store.queue_entries + 1, 1 << 32, u64::MAX]);
+            random.pick(&[store.sizes.queue_entries + 1, 1 << 32, u64::MAX]);
     }
     let count = counts.get(row as usize).copied().unwrap_or(0);
     let start = match random.below(12) {
@@ -246,7 +263,7 @@ fn queue_reading<'a>(random: &Random, store: &'a Store, mut counts: [u64; 16]) -
     let tag_code = some_tag_code(random, store, row.min(rows - 1));
     QueueReading {
         queues: &store.state.queues,
-        queue_entries: store.queue_entries,
+        sizes: store.sizes,
         directory: &store.directory,
         counts,
         row,
@@ -261,7 +278,7 @@ fn queue_reading<'a>(random: &Random, store: &'a Store, mut counts: [u64; 16]) -
 /// A tag code that an entry of the row holds, or one like it.
 fn some_tag_code(random: &Random, store: &Store, row: u64) -> u64 {
     let queues = store.state.queues.get();
-    let entry = row * store.queue_entries + random.below(store.queue_entries.min(6));
+    let entry = row * store.sizes.queue_entries + random.below(store.sizes.queue_entries.min(6));
     let place = entry as usize * 20 + 12;
     let held = match queues.get(place..place + 8) {
         Some(bytes) => u64::from_be_bytes(bytes.try_into().expect("8 bytes")),
@@ -352,8 +369,7 @@ fn query(bench: &mut Bench, random: &Random, store: &Store) -> Check<()> {
     }
     bench.query(&Question {
         index: &store.state.index,
-        slot_count: store.slot_count,
-        item_count: store.item_count,
+        sizes: store.sizes,
         topic: &topic,
         key: &key,
         first_time,
@@ -369,31 +385,41 @@ fn append_anywhere(bench: &mut Bench, random: &Random, store: &mut Store) -> Che
     for _ in 0..random.below(4) {
         let (topic, queue_id) = random.pick(&store.rows);
         let mut draft = Draft {
-            queue_id,
+            queue_id: u64::from(queue_id),
             ..Draft::least(&topic)
         };
         draft.scatter(random);
-        let segments = store.log.len() as u64 / store.shape.s;
-        let segment_end = store.shape.b + store.shape.s * random.between(1, segments);
+        let segments = store.log.len() as u64 / store.sizes.segment_size;
+        let segment_end =
+            store.sizes.first_position + store.sizes.segment_size * random.between(1, segments);
         let mut position = match random.below(8) {
             0 => store.log_end(),
             1 => store.log_end() + 1,
-            2 => store.shape.b.wrapping_sub(random.pick(&[1, 8, 92, 100])),
+            2 => store
+                .sizes
+                .first_position
+                .wrapping_sub(random.pick(&[1, 8, 92, 100])),
             3 => random.absurd(),
-            4 => store.shape.b + random.below(store.log.len() as u64),
+            4 => store.sizes.first_position + random.below(store.log.len() as u64),
             _ => segment_end - random.below(120),
         };
-        match random.below(8) {
+        match random.below(9) {
             0 => draft.topic.clear(),
             1 => draft.store_time = 1 << 48,
             2..=4 => {
-                let r = store.shape.s - position % store.shape.s;
+                let r = store.sizes.segment_size - position % store.sizes.segment_size;
                 draft.grow_to((r + 1).saturating_sub(random.between(7, 11)), random);
             }
-            5 => draft.grow_to(store.shape.s - random.between(6, 9), random),
+            5 => draft.grow_to(store.sizes.segment_size - random.between(6, 9), random),
+            6 => random.pick(&Fault::ALL).put(&mut draft, random),
             _ => {}
         }
-        bench.append(&mut store.log, store.shape, &draft.message(), &mut position)?;
+        bench.append(
+            &mut store.log,
+            &store.sizes,
+            &draft.message(),
+            &mut position,
+        )?;
     }
     Ok(())
 }
@@ -417,6 +443,7 @@ fn worn_index(bench: &mut Bench, random: &Random) -> Check<()> {
             _ => store.invent_header(random),
         }
     }
+    bench.check_index(&store.state.index, &store.sizes)?;
     for _ in 0..random.between(1, 8) {
         query(bench, random, &store)?;
     }
@@ -483,8 +510,8 @@ fn dispatch_doors(bench: &mut Bench, random: &Random, store: &Store) -> Check<()
             random.beside(position)
         } else {
             random.pick(&[
-                store.queue_entries,
-                store.queue_entries + 1,
+                store.sizes.queue_entries,
+                store.sizes.queue_entries + 1,
                 1 << 32,
                 u64::MAX,
             ])
@@ -492,7 +519,7 @@ fn dispatch_doors(bench: &mut Bench, random: &Random, store: &Store) -> Check<()
         state.progress.set(number, &[value]);
     }
     if random.one_in(4) {
-        let used = random.pick(&[0, store.item_count as u32 + 1, 1 << 31, u32::MAX]);
+        let used = random.pick(&[0, store.sizes.item_count as u32 + 1, 1 << 31, u32::MAX]);
         state.index.set(36, &used.to_be_bytes());
         state
             .index
@@ -523,18 +550,21 @@ fn dispatch_doors(bench: &mut Bench, random: &Random, store: &Store) -> Check<()
     }
     if random.one_in(10) {
         // An index that fits what is wrong.
-        (other.slot_count, other.item_count) = few(random, store);
-        state.index = Twin::zeros(Store::index_length(other.slot_count, other.item_count));
+        (other.sizes.slot_count, other.sizes.item_count) = few(random, store);
+        state.index = Twin::zeros(Store::index_length(
+            other.sizes.slot_count,
+            other.sizes.item_count,
+        ));
     }
     if random.one_in(4) {
         // One parameter beside what is meant, fault or not.
         match random.below(7) {
-            0 => other.shape.s = random.beside(other.shape.s),
-            1 => other.shape.b = random.beside(other.shape.b),
+            0 => other.sizes.segment_size = random.beside(other.sizes.segment_size),
+            1 => other.sizes.first_position = random.beside(other.sizes.first_position),
             2 => other.readable_end = random.beside(other.readable_end),
-            3 => other.queue_entries = random.beside(other.queue_entries),
-            4 => other.slot_count = random.beside(other.slot_count),
-            5 => other.item_count = random.beside(other.item_count),
+            3 => other.sizes.queue_entries = random.beside(other.sizes.queue_entries),
+            4 => other.sizes.slot_count = random.beside(other.sizes.slot_count),
+            5 => other.sizes.item_count = random.beside(other.sizes.item_count),
             _ => {
                 let place = random.below(17) as usize;
                 let value = random.beside(state.progress.get()[place]);
@@ -551,7 +581,7 @@ fn queue_doors(bench: &mut Bench, random: &Random, store: &Store) -> Check<()> {
     let mut reading = queue_reading(random, store, counts_of(store));
     if random.one_in(4) {
         other.spoil_queue_entries(random);
-        reading.queue_entries = other.queue_entries;
+        reading.sizes = other.sizes;
     }
     if random.one_in(4) {
         other.spoil_directory(random);
@@ -565,7 +595,7 @@ fn queue_doors(bench: &mut Bench, random: &Random, store: &Store) -> Check<()> {
         0 => reading.row = random.beside(reading.row),
         1 => reading.start = random.beside(reading.start),
         2 => reading.wanted = random.beside(reading.wanted),
-        3 => reading.queue_entries = random.beside(reading.queue_entries),
+        3 => reading.sizes.queue_entries = random.beside(reading.sizes.queue_entries),
         _ => {}
     }
     let queues;
@@ -582,7 +612,7 @@ fn queue_doors(bench: &mut Bench, random: &Random, store: &Store) -> Check<()> {
 
 /// Too few slots or items, or as few as can be.
 fn few(random: &Random, store: &Store) -> (u64, u64) {
-    let (k, n) = (store.slot_count, store.item_count);
+    let (k, n) = (store.sizes.slot_count, store.sizes.item_count);
     random.pick(&[(0, n), (k, 1), (k, 0), (0, 0), (1, 1), (1, 2)])
 }
 
@@ -601,24 +631,23 @@ fn query_doors(bench: &mut Bench, random: &Random, store: &Store) -> Check<()> {
         index.resize(random.pick(&[0, 1, 39, 40, length - 1, length + 1]), 0);
     }
     if random.one_in(10) {
-        (other.slot_count, other.item_count) = few(random, store);
-        index = vec![0; Store::index_length(other.slot_count, other.item_count)];
+        (other.sizes.slot_count, other.sizes.item_count) = few(random, store);
+        index = vec![0; Store::index_length(other.sizes.slot_count, other.sizes.item_count)];
     }
+    if random.one_in(8) {
+        other.sizes.slot_count = random.beside(other.sizes.slot_count);
+    }
+    if random.one_in(8) {
+        other.sizes.item_count = random.beside(other.sizes.item_count);
+    }
+    let index = Twin::new(&index);
+    bench.check_index(&index, &other.sizes)?;
     let topic_length = random.pick(&[0, 1, 1, 1, 2, 127, 128]);
     let key_length = random.pick(&[0, 1, 1, 1, 2, 300]);
     let times = [random.absurd() >> random.pick(&[0, 16]), LARGEST_TIME];
     bench.query(&Question {
-        index: &Twin::new(&index),
-        slot_count: if random.one_in(8) {
-            random.beside(other.slot_count)
-        } else {
-            other.slot_count
-        },
-        item_count: if random.one_in(8) {
-            random.beside(other.item_count)
-        } else {
-            other.item_count
-        },
+        index: &index,
+        sizes: other.sizes,
         topic: &random.bytes(topic_length),
         key: &random.bytes(key_length),
         first_time: random.pick(&[0, times[0], times[1]]),
@@ -636,14 +665,17 @@ fn log_doors(bench: &mut Bench, random: &Random, store: &Store) -> Check<()> {
         other.spoil_log(random);
     }
     match random.below(6) {
-        0 => other.shape.s = random.beside(other.shape.s),
-        1 => other.shape.b = random.beside(other.shape.b),
+        0 => other.sizes.segment_size = random.beside(other.sizes.segment_size),
+        1 => other.sizes.first_position = random.beside(other.sizes.first_position),
         _ => {}
     }
-    let end = other.shape.b.wrapping_add(other.log.len() as u64);
+    let end = other
+        .sizes
+        .first_position
+        .wrapping_add(other.log.len() as u64);
     let near_end = end.wrapping_sub(random.below(10));
     let position = random.pick(&[
-        other.shape.b,
+        other.sizes.first_position,
         near_end,
         end.wrapping_add(1),
         store.written_end,
@@ -660,26 +692,30 @@ fn log_doors(bench: &mut Bench, random: &Random, store: &Store) -> Check<()> {
         position,
         position.wrapping_sub(1),
     ]);
-    bench.read_record(&other.log, other.shape, position, readable_end)?;
+    bench.read_record(&other.log, &other.sizes, position, readable_end)?;
     let mut draft = Draft::least(b"T");
     draft.scatter(random);
-    match random.below(9) {
+    match random.below(13) {
         0 => draft.topic.clear(),
         1 => draft.topic = vec![b't'; random.pick(&[127, 128, 129, 255, 256])],
         2 => draft.store_time = random.absurd(),
-        3 => draft.queue_id = random.absurd() as u32,
-        4 => draft.system_flag = random.absurd() as u32,
+        3 => draft.queue_id = random.absurd(),
+        4 => draft.system_flag = random.absurd(),
         5 => draft.grow_to(
-            other.shape.s.clamp(200, 3_000) - random.between(6, 9),
+            other.sizes.segment_size.clamp(200, 3_000) - random.between(6, 9),
             random,
         ),
         6 => draft.queue_offset = random.absurd(),
+        7 => random.pick(&Fault::ALL).put(&mut draft, random),
+        8 => draft.body_crc = random.absurd(),
+        9 => draft.flag = random.absurd(),
+        10 => draft.reconsume_times = random.absurd(),
         _ => {}
     }
     let mut write_position = position;
     bench.append(
         &mut other.log,
-        other.shape,
+        &other.sizes,
         &draft.message(),
         &mut write_position,
     )?;
@@ -736,8 +772,8 @@ fn directories(bench: &mut Bench, random: &Random) -> Check<()> {
         }
         let claimed = rows.len() as u64;
         store.directory = Twin::new(&bytes);
-        store.queue_entries = random.pick(&[1, 2, 3]);
-        let length = 20 * claimed * store.queue_entries;
+        store.sizes.queue_entries = random.pick(&[1, 2, 3]);
+        let length = 20 * claimed * store.sizes.queue_entries;
         let length = if random.one_in(12) {
             random.beside(length) % 2_000
         } else {
@@ -747,16 +783,16 @@ fn directories(bench: &mut Bench, random: &Random) -> Check<()> {
         store.state.progress.set(1, &[0; 16]);
         if random.one_in(8) {
             let place = random.between(1, 16) as usize;
-            let count = random.between(store.queue_entries, store.queue_entries + 1);
+            let count = random.between(store.sizes.queue_entries, store.sizes.queue_entries + 1);
             store.state.progress.set(place, &[count]);
         }
-        store.written_end = store.shape.b;
+        store.written_end = store.sizes.first_position;
         let mut state = store.state.clone();
         bench.dispatch(&store.call(random.pick(&[0, 1])), &mut state)?;
-        let counts = [random.pick(&[0, store.queue_entries]); 16];
+        let counts = [random.pick(&[0, store.sizes.queue_entries]); 16];
         bench.read_queue(&QueueReading {
             queues: &store.state.queues,
-            queue_entries: store.queue_entries,
+            sizes: store.sizes,
             directory: &store.directory,
             counts,
             row: random.pick(&[0, claimed.saturating_sub(1), claimed, 15, 16]),
@@ -810,16 +846,19 @@ fn listings(bench: &mut Bench, random: &Random) -> Check<()> {
 fn largest_record(bench: &mut Bench) -> Check<()> {
     const LARGEST: u64 = 4_194_304;
     for s in [LARGEST + 7, LARGEST + 8, LARGEST + 200] {
-        let shape = LogShape { s, b: 0 };
+        let sizes = Sizes {
+            segment_size: s,
+            ..Sizes::default()
+        };
         let mut log = Twin::zeros(s as usize);
         for total in [LARGEST, LARGEST + 1] {
             let mut draft = Draft::least(b"T");
             draft.body = vec![0xBD; total as usize - 92];
             let mut write_position = 0;
-            bench.append(&mut log, shape, &draft.message(), &mut write_position)?;
+            bench.append(&mut log, &sizes, &draft.message(), &mut write_position)?;
             log.set(0, &(total as u32).to_be_bytes());
             for end in [8, total - 1, total, s] {
-                bench.read_record(&log, shape, 0, end.min(s))?;
+                bench.read_record(&log, &sizes, 0, end.min(s))?;
             }
         }
     }
@@ -835,7 +874,10 @@ fn largest_sizes(bench: &mut Bench, random: &Random) -> Check<()> {
         counts[0] = queue_entries;
         bench.read_queue(&QueueReading {
             queues: &queues,
-            queue_entries,
+            sizes: Sizes {
+                queue_entries,
+                ..Sizes::default()
+            },
             directory: &directory,
             counts,
             row: 0,
@@ -847,7 +889,7 @@ fn largest_sizes(bench: &mut Bench, random: &Random) -> Check<()> {
         })?;
         let plan = Plan::default();
         let mut store = Store::filled(bench, random, plan)?;
-        store.queue_entries = queue_entries;
+        store.sizes.queue_entries = queue_entries;
         store.state.queues = Twin::zeros(20 * queue_entries as usize * store.rows.len());
         let mut state = store.state.clone();
         bench.dispatch(&store.call(u64::MAX), &mut state)?;
@@ -859,10 +901,15 @@ fn largest_sizes(bench: &mut Bench, random: &Random) -> Check<()> {
         (1, 20_000_001),
     ] {
         let index = Twin::zeros(Store::index_length(slot_count, item_count));
-        bench.query(&Question {
-            index: &index,
+        let sizes = Sizes {
             slot_count,
             item_count,
+            ..Sizes::default()
+        };
+        bench.check_index(&index, &sizes)?;
+        bench.query(&Question {
+            index: &index,
+            sizes,
             topic: b"T",
             key: b"k",
             first_time: 0,
@@ -873,18 +920,20 @@ fn largest_sizes(bench: &mut Bench, random: &Random) -> Check<()> {
     }
     for s in [1 << 30, (1 << 30) + 1] {
         let mut log = Twin::zeros(s as usize);
-        let shape = LogShape {
-            s,
-            b: LARGEST_POSITION / s * s - s,
+        let b = LARGEST_POSITION / s * s - s;
+        let sizes = Sizes {
+            segment_size: s,
+            first_position: b,
+            ..Sizes::default()
         };
-        let mut write_position = shape.b + s - 500;
+        let mut write_position = b + s - 500;
         bench.append(
             &mut log,
-            shape,
+            &sizes,
             &Draft::least(b"T").message(),
             &mut write_position,
         )?;
-        bench.read_record(&log, shape, shape.b + s - 500, shape.b + s)?;
+        bench.read_record(&log, &sizes, b + s - 500, b + s)?;
     }
     for length in [1_023u32, 1_024, 65_535, 65_536, 65_537] {
         let mut segment = vec![0; length as usize];

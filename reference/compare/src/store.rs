@@ -1,9 +1,13 @@
 //! A store built by appends through the interface, and ways to damage it.
 
+use model::interface::{Progress, Sizes};
+
+use crate::judge::Check;
 use crate::lent::Twin;
-use crate::messages::{properties, store_time, Draft, LARGEST_TIME, TOPICS};
-use crate::operations::{Bench, Check, DispatchCall, LogShape, State};
+use crate::messages::{odd_properties, properties, store_time, Draft, LARGEST_TIME, TOPICS};
+use crate::operations::{Bench, DispatchCall, State};
 use crate::random::Random;
+use crate::requests::Fault;
 
 pub const MESSAGE_MAGIC: [u8; 4] = [0xDA, 0xA3, 0x20, 0xA7];
 pub const BLANK_MAGIC: [u8; 4] = [0xCB, 0xD4, 0x31, 0x94];
@@ -25,16 +29,13 @@ pub const LARGEST_POSITION: u64 = 1 << 40;
 
 pub struct Store {
     pub log: Twin<u8>,
-    pub shape: LogShape,
+    pub sizes: Sizes,
     /// Where the next append would write.
     pub written_end: u64,
     /// Where records and blanks stand, in order.
     pub entries: Vec<u64>,
     pub directory: Twin<u8>,
     pub rows: Vec<(Vec<u8>, u32)>,
-    pub queue_entries: u64,
-    pub slot_count: u64,
-    pub item_count: u64,
     pub state: State,
     /// Store times in the log, for queries to ask about.
     pub times: Vec<u64>,
@@ -124,8 +125,10 @@ impl Store {
         } else {
             random.pick(&[80, 200, 200])
         };
-        let mut progress = [0; 17];
-        progress[0] = b;
+        let progress = Progress {
+            position: b,
+            counts: [0; 16],
+        };
         let mut index = vec![0; Store::index_length(slot_count, item_count)];
         if random.one_in(2) {
             index[39] = 1;
@@ -137,15 +140,18 @@ impl Store {
         }
         Store {
             log: Twin::new(&random.bytes(s * segments)),
-            shape: LogShape { s, b },
+            sizes: Sizes {
+                segment_size: s,
+                first_position: b,
+                queue_entries,
+                slot_count,
+                item_count,
+            },
             written_end: b,
             entries: Vec::new(),
             directory: Twin::new(&directory),
-            queue_entries,
-            slot_count,
-            item_count,
             state: State {
-                progress: Twin::new(&progress),
+                progress: Twin::new(&progress.numbers()),
                 queues: Twin::new(&random.bytes(20 * queue_entries * rows.len() as u64)),
                 index: Twin::new(&index),
             },
@@ -161,7 +167,7 @@ impl Store {
         if !plan.roomy && random.one_in(6) {
             // The queues have entries already.
             for (row, count) in store.counts.iter_mut().enumerate() {
-                *count = random.below(store.queue_entries + 1);
+                *count = random.below(store.sizes.queue_entries + 1);
                 store.state.progress.set(1 + row, &[*count]);
             }
         }
@@ -194,7 +200,7 @@ impl Store {
             let answer = self.append(bench, &draft)?;
             if answer == 0 {
                 let (topic, queue_id) = &self.rows[listed];
-                let listed_still = draft.topic == *topic && draft.queue_id == *queue_id;
+                let listed_still = draft.topic == *topic && draft.queue_id == u64::from(*queue_id);
                 if matches!(draft.system_flag & 12, 0 | 8) && listed_still {
                     self.counts[listed] += 1;
                 }
@@ -210,18 +216,22 @@ impl Store {
     fn draft(&self, random: &Random, plan: Plan, listed: usize, store_time: u64) -> Draft {
         let (topic, queue_id) = &self.rows[listed];
         let mut draft = Draft {
-            queue_id: *queue_id,
+            queue_id: u64::from(*queue_id),
             queue_offset: self.counts[listed],
             system_flag: random.pick(&[0, 0, 0, 0, 4, 8, 8, 12])
                 | random.pick(&[0, 0, 1, 2, 3, 64, 0x8000_0000, 0xFFFF_FFC3]),
             store_time,
-            properties: properties(random),
+            properties: if random.one_in(12) {
+                odd_properties(random)
+            } else {
+                properties(random)
+            },
             ..Draft::least(topic)
         };
         draft.scatter(random);
         if plan.single {
             // The lister writes both: numbers of every width.
-            draft.queue_id = (random.next() >> random.between(33, 63)) as u32;
+            draft.queue_id = random.next() >> random.between(33, 63);
             draft.store_time = random.next() >> random.between(16, 63);
         }
         if plan.wide && random.one_in(2) {
@@ -235,7 +245,7 @@ impl Store {
             draft.grow_to((r + 1).saturating_sub(random.between(7, 11)), random);
         }
         if random.one_in(60) {
-            draft.grow_to(self.shape.s - random.between(6, 9), random);
+            draft.grow_to(self.sizes.segment_size - random.between(6, 9), random);
         }
         if plan.wide && plan.single && !random.one_in(20) {
             draft.body.clear();
@@ -249,7 +259,7 @@ impl Store {
         if !random.one_in(12) {
             return;
         }
-        match random.below(10) {
+        match random.below(12) {
             0 => {
                 draft.topic = random.bytes(random.pick(&[0, 0, 126, 127, 128, 129, 255, 256, 257]))
             }
@@ -257,7 +267,10 @@ impl Store {
             2 => draft.system_flag |= random.pick(&[16, 32, 48]),
             3 => draft.store_time = random.pick(&[LARGEST_TIME, 1 << 48, 1 << 63, u64::MAX]),
             4 => draft.topic = random.pick(&TOPICS).to_vec(),
-            5 => draft.queue_id = random.pick(&[0x8000_0000, 0x7FFF_FFFF, u32::MAX, 0x0403_0201]),
+            5 => {
+                draft.queue_id = random.pick(&[0x8000_0000, 0x7FFF_FFFF, 0xFFFF_FFFF, 0x0403_0201])
+            }
+            6 | 7 => random.pick(&Fault::ALL).put(draft, random),
             _ => {
                 let meant = draft.queue_offset;
                 draft.queue_offset = random.pick(&[
@@ -266,7 +279,7 @@ impl Store {
                     0,
                     meant + (1 << 32),
                     meant | 1 << 63,
-                    self.queue_entries,
+                    self.sizes.queue_entries,
                     u64::MAX,
                 ]);
             }
@@ -290,7 +303,7 @@ impl Store {
 
     fn append_once(&mut self, bench: &mut Bench, draft: &Draft) -> Check<u32> {
         let message = draft.message();
-        bench.append(&mut self.log, self.shape, &message, &mut self.written_end)
+        bench.append(&mut self.log, &self.sizes, &message, &mut self.written_end)
     }
 
     /// Writes a blank by hand, as append leaves none in the last segment.
@@ -298,7 +311,7 @@ impl Store {
         if self.written_end < self.log_end() {
             let r = self.bytes_to_segment_end(self.written_end);
             let total = if random.one_in(4) {
-                random.pick(&[r - 1, r + 1, self.shape.s, 8])
+                random.pick(&[r - 1, r + 1, self.sizes.segment_size, 8])
             } else {
                 r
             };
@@ -311,27 +324,24 @@ impl Store {
     }
 
     pub fn log_end(&self) -> u64 {
-        self.shape.b + self.log.len() as u64
+        self.sizes.first_position + self.log.len() as u64
     }
 
     pub fn bytes_to_segment_end(&self, position: u64) -> u64 {
-        self.shape.s - position % self.shape.s
+        self.sizes.segment_size - position % self.sizes.segment_size
     }
 
     /// The place in the log's bytes of a position in the log.
     pub fn place(&self, position: u64) -> usize {
-        (position - self.shape.b) as usize
+        (position - self.sizes.first_position) as usize
     }
 
     pub fn call(&self, budget: u64) -> DispatchCall<'_> {
         DispatchCall {
             log: &self.log,
-            shape: self.shape,
+            sizes: self.sizes,
             readable_end: self.written_end,
             directory: &self.directory,
-            queue_entries: self.queue_entries,
-            slot_count: self.slot_count,
-            item_count: self.item_count,
             budget,
         }
     }
@@ -339,7 +349,7 @@ impl Store {
     /// The record or blank that starts before the written end, at random.
     fn some_entry(&self, random: &Random) -> u64 {
         if self.entries.is_empty() {
-            self.shape.b
+            self.sizes.first_position
         } else {
             random.pick(&self.entries)
         }
@@ -380,7 +390,7 @@ impl Store {
                     (r as u32).wrapping_sub(8),
                     (r as u32).wrapping_sub(7),
                     r as u32,
-                    self.shape.s as u32,
+                    self.sizes.segment_size as u32,
                     total | 1 << 31,
                     1 << 31,
                     u32::MAX,
@@ -431,7 +441,7 @@ impl Store {
                 let value = random.pick(&[
                     position + 1,
                     position.wrapping_sub(1),
-                    position - self.shape.b,
+                    position - self.sizes.first_position,
                     position | 1 << 63,
                     position ^ 1 << random.below(64),
                     u64::MAX,
@@ -493,13 +503,13 @@ impl Store {
     /// The last item's number, at least 1 and within the file.
     fn last_item(&self) -> u64 {
         let used = u64::from(self.used_count());
-        used.clamp(2, self.item_count) - 1
+        used.clamp(2, self.sizes.item_count) - 1
     }
 
     /// Damages one header field of the index.
     pub fn damage_header(&mut self, random: &Random) {
         let used = self.used_count();
-        let n = self.item_count as u32;
+        let n = self.sizes.item_count as u32;
         let index = &mut self.state.index;
         match random.below(4) {
             0 => {
@@ -518,11 +528,11 @@ impl Store {
             }
             1 => {
                 let place = random.pick(&[16, 24, 24]);
-                let within = self.shape.b + random.below(self.log.len() as u64 + 1);
+                let within = self.sizes.first_position + random.below(self.log.len() as u64 + 1);
                 let value = random.pick(&[
                     0,
                     1,
-                    self.shape.b,
+                    self.sizes.first_position,
                     within,
                     within,
                     LARGEST_POSITION,
@@ -566,14 +576,19 @@ impl Store {
 
     /// A header that says more items than were put: the items behind it hold anything.
     pub fn invent_header(&mut self, random: &Random) {
-        let used = random.between(2, self.item_count) as u32;
-        let within = self.shape.b + random.below(self.log.len() as u64 + 1);
+        let used = random.between(2, self.sizes.item_count) as u32;
+        let within = self.sizes.first_position + random.below(self.log.len() as u64 + 1);
         let time = random.pick(&[0, 1, 10_000, 20_000, LARGEST_TIME]);
         let index = &mut self.state.index;
         index.set(0, &time.to_be_bytes());
         index.set(8, &random.below(1 << 48).to_be_bytes());
         index.set(16, &within.to_be_bytes());
-        index.set(24, &random.pick(&[0, within, self.shape.b]).to_be_bytes());
+        index.set(
+            24,
+            &random
+                .pick(&[0, within, self.sizes.first_position])
+                .to_be_bytes(),
+        );
         index.set(32, &(random.below(u64::from(used)) as u32).to_be_bytes());
         index.set(36, &used.to_be_bytes());
     }
@@ -581,7 +596,7 @@ impl Store {
     /// Damages a slot.
     pub fn damage_slot(&mut self, random: &Random) {
         let used = self.used_count().max(1);
-        let slot = random.below(self.slot_count) as usize;
+        let slot = random.below(self.sizes.slot_count) as usize;
         let value = random.pick(&[
             0,
             1,
@@ -590,8 +605,8 @@ impl Store {
             used,
             used,
             used + 1,
-            self.item_count as u32 - 1,
-            self.item_count as u32,
+            self.sizes.item_count as u32 - 1,
+            self.sizes.item_count as u32,
             1 << 31,
             u32::MAX,
             i32::MAX as u32,
@@ -602,7 +617,7 @@ impl Store {
     /// Damages one field of an item.
     pub fn damage_item(&mut self, random: &Random) {
         let number = random.between(1, self.last_item());
-        let at = Store::index_length(self.slot_count, number);
+        let at = Store::index_length(self.sizes.slot_count, number);
         let index = &mut self.state.index;
         match random.below(7) {
             0..=2 => {
@@ -615,7 +630,7 @@ impl Store {
                     1,
                     u32::MAX,
                     1 << 31,
-                    self.item_count as u32,
+                    self.sizes.item_count as u32,
                 ]);
                 index.set(at + 16, &value.to_be_bytes());
             }
@@ -648,7 +663,7 @@ impl Store {
     }
 }
 
-fn wide_properties(random: &Random) -> Vec<u8> {
+pub fn wide_properties(random: &Random) -> Vec<u8> {
     let length = random.pick(&[
         300, 5_000, 32_766, 32_767, 32_767, 32_768, 65_535, 65_536, 65_537,
     ]);

@@ -1,18 +1,17 @@
 //! A dispatch call of its own, to be spoiled: every fault here is one that the door refuses.
 
+use model::interface::Sizes;
+
 use crate::lent::Twin;
-use crate::operations::{DispatchCall, LogShape};
+use crate::operations::DispatchCall;
 use crate::random::Random;
 use crate::store::{row, Store, LARGEST_POSITION};
 
 pub struct Variation {
     pub log: Twin<u8>,
-    pub shape: LogShape,
+    pub sizes: Sizes,
     pub readable_end: u64,
     pub directory: Twin<u8>,
-    pub queue_entries: u64,
-    pub slot_count: u64,
-    pub item_count: u64,
     pub budget: u64,
 }
 
@@ -20,12 +19,9 @@ impl Variation {
     pub fn of(store: &Store, budget: u64) -> Variation {
         Variation {
             log: store.log.clone(),
-            shape: store.shape,
+            sizes: store.sizes,
             readable_end: store.written_end,
             directory: store.directory.clone(),
-            queue_entries: store.queue_entries,
-            slot_count: store.slot_count,
-            item_count: store.item_count,
             budget,
         }
     }
@@ -33,23 +29,21 @@ impl Variation {
     pub fn call(&self) -> DispatchCall<'_> {
         DispatchCall {
             log: &self.log,
-            shape: self.shape,
+            sizes: self.sizes,
             readable_end: self.readable_end,
             directory: &self.directory,
-            queue_entries: self.queue_entries,
-            slot_count: self.slot_count,
-            item_count: self.item_count,
             budget: self.budget,
         }
     }
 
     /// S, B or the log's length.
     pub fn spoil_log(&mut self, random: &Random) {
-        let LogShape { s, b } = self.shape;
+        let s = self.sizes.segment_size;
+        let b = self.sizes.first_position;
         let length = self.log.len();
         match random.below(4) {
             0 => {
-                self.shape.s = random.pick(&[
+                self.sizes.segment_size = random.pick(&[
                     0,
                     1,
                     2,
@@ -64,7 +58,7 @@ impl Variation {
                 ]);
             }
             1 => {
-                self.shape.b = random.pick(&[
+                self.sizes.first_position = random.pick(&[
                     b + 1,
                     b.wrapping_sub(1),
                     b + s / 2,
@@ -76,11 +70,11 @@ impl Variation {
                     1 << 63,
                 ]);
                 // The last segment that still fits is no fault.
-                if self.shape.b.is_multiple_of(s)
-                    && self.shape.b <= LARGEST_POSITION
-                    && self.shape.b + length as u64 <= LARGEST_POSITION
+                if self.sizes.first_position.is_multiple_of(s)
+                    && self.sizes.first_position <= LARGEST_POSITION
+                    && self.sizes.first_position + length as u64 <= LARGEST_POSITION
                 {
-                    self.shape.b += 1;
+                    self.sizes.first_position += 1;
                 }
             }
             2 => {
@@ -92,7 +86,8 @@ impl Variation {
             // A segment below the least one, that all else fits.
             _ => {
                 let s = random.pick(&[1_023, 512, 92]);
-                self.shape = LogShape { s, b: 0 };
+                self.sizes.segment_size = s;
+                self.sizes.first_position = 0;
                 self.log = Twin::new(&self.log.get()[..s as usize]);
                 self.readable_end = s;
             }
@@ -101,8 +96,8 @@ impl Variation {
 
     /// R, or another R than the queue buffer has.
     pub fn spoil_queue_entries(&mut self, random: &Random) {
-        let r = self.queue_entries;
-        self.queue_entries = random.pick(&[
+        let r = self.sizes.queue_entries;
+        self.sizes.queue_entries = random.pick(&[
             0,
             r - 1,
             r + 1,
@@ -117,9 +112,9 @@ impl Variation {
 
     /// K, N, or others than the index has.
     pub fn spoil_index_shape(&mut self, random: &Random) {
-        let (k, n) = (self.slot_count, self.item_count);
+        let (k, n) = (self.sizes.slot_count, self.sizes.item_count);
         if random.one_in(2) {
-            self.slot_count = random.pick(&[
+            self.sizes.slot_count = random.pick(&[
                 0,
                 k - 1,
                 k + 1,
@@ -130,7 +125,7 @@ impl Variation {
                 u64::MAX,
             ]);
         } else {
-            self.item_count = random.pick(&[
+            self.sizes.item_count = random.pick(&[
                 0,
                 1,
                 n - 1,
@@ -190,7 +185,10 @@ impl Variation {
 
     /// The readable end, where the progress is at `position`.
     pub fn spoil_end(&mut self, random: &Random, position: u64) {
-        let end = self.shape.b.wrapping_add(self.log.len() as u64);
+        let end = self
+            .sizes
+            .first_position
+            .wrapping_add(self.log.len() as u64);
         self.readable_end = match random.below(4) {
             0 if position > 0 => position - 1,
             1 if position > 0 => random.below(position),

@@ -5,7 +5,7 @@
 //! given and 0 for all else. Door checks run in this order: append 1, 2, 5, then 6 or 7; dispatch 1, 3, 2, 4; record
 //! reading 1, 2; query 1, 4, 17; queue reading 1, 3, 2, 17."
 
-/// An answer; its number is the table's.
+/// An answer; its number is the table's, its name the header's (include/swistopal.h).
 #[derive(Clone, Copy, Debug, PartialEq, Eq, PartialOrd, Ord)]
 pub enum Answer {
     /// "done, caught up, chain ended or enough found"
@@ -33,7 +33,7 @@ pub enum Answer {
     /// "queue not listed"
     QueueNotListed = 11,
     /// "queue out of step"
-    QueueOutOfStep = 12,
+    OutOfStep = 12,
     /// "queue full"
     QueueFull = 13,
     /// "index full"

@@ -16,6 +16,11 @@ pub fn hash(bytes: &[u8]) -> Whole {
     }
 }
 
+/// "Tag code: that signed number carried into 64 bits".
+pub fn tag_code(tag: &[u8]) -> Whole {
+    hash(tag)
+}
+
 /// "Index hash: of topic, `#`, key; its absolute value, and 0 for −2,147,483,648."
 pub fn index_hash(topic: &[u8], key: &[u8]) -> Whole {
     absolute(hash(&[topic, b"#", key].concat()))

@@ -72,6 +72,17 @@ pub fn header_ok(index: &[u8], shape: IndexShape) -> bool {
     true
 }
 
+/// What every reader of one index file asks first: 1 for K, N or the length, 4 for the header.
+pub fn check(index: &[u8], shape: IndexShape) -> Result<(), Answer> {
+    if !shape.fits(index) {
+        return Err(Answer::BadSizes);
+    }
+    if !header_ok(index, shape) {
+        return Err(Answer::BadHeader);
+    }
+    Ok(())
+}
+
 /// "Empty means every byte 0, or all but a used count of 1."
 pub fn empty(index: &[u8]) -> bool {
     let mut rest = index.to_vec();
@@ -248,12 +259,7 @@ fn judge_query(
     question: &Question,
     places: usize,
 ) -> Result<(), Answer> {
-    if !shape.fits(index) {
-        return Err(Answer::BadSizes);
-    }
-    if !header_ok(index, shape) {
-        return Err(Answer::BadHeader);
-    }
+    check(index, shape)?;
     // "Query: topic and key non-empty and within 127 and 32,767 bytes;"
     let topic_ok = (1..=LONGEST_TOPIC).contains(&length(question.topic));
     let key_ok = (1..=LONGEST_PROPERTIES).contains(&length(question.key));

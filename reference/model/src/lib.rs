@@ -15,7 +15,8 @@
 //! | The index | [`index_file`] (header, put, query), [`consume_queue`] (queue reading) |
 //! | Lister | [`lister`] |
 //!
-//! [`interface`] has the same operations with the names, order and numbers of the C interface.
+//! [`interface`] has the same operations, and six small functions that tell what a record makes, with the names, order
+//! and structs of the C interface (include/swistopal.h).
 
 pub mod number;
 

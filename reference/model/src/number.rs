@@ -50,6 +50,20 @@ pub fn write(bytes: &mut [u8], place: Whole, new: &[u8]) {
     bytes[at(place)..at(place) + new.len()].copy_from_slice(new);
 }
 
+/// A run of bytes: where it starts in those it is counted from, and how many there are.
+#[derive(Clone, Copy, Debug, PartialEq, Eq)]
+pub struct Place {
+    pub at: Whole,
+    pub length: Whole,
+}
+
+impl Place {
+    /// The bytes of the run.
+    pub fn of(self, bytes: &[u8]) -> &[u8] {
+        part(bytes, self.at, self.length)
+    }
+}
+
 /// A big-endian number, not negative: the bytes taken as 0 to 255, the most significant first.
 pub fn big_endian(bytes: &[u8]) -> Whole {
     let mut value = 0;
@@ -91,13 +105,21 @@ pub fn long_at(bytes: &[u8], place: Whole) -> Whole {
 }
 
 /// The bit pattern of the 4 bytes at `place`.
-pub fn int_bits_at(bytes: &[u8], place: Whole) -> u32 {
-    big_endian(part(bytes, place, 4)) as u32
+pub fn int_bits_at(bytes: &[u8], place: Whole) -> u64 {
+    big_endian(part(bytes, place, 4)) as u64
 }
 
 /// The bit pattern of the 8 bytes at `place`.
 pub fn long_bits_at(bytes: &[u8], place: Whole) -> u64 {
     big_endian(part(bytes, place, 8)) as u64
+}
+
+/// The 4 bytes of a bit pattern, or none where the number is above 2^32 − 1.
+pub fn int_bits_bytes(bits: u64) -> Option<[u8; 4]> {
+    if bits > 4_294_967_295 {
+        return None;
+    }
+    Some((bits as u32).to_be_bytes())
 }
 
 /// The 4 bytes of Java's int. `value` is within its range.

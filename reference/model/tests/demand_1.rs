@@ -6,7 +6,7 @@ use std::collections::BTreeSet;
 
 use common::random::{random_properties, random_store, trouble, Plan};
 use common::*;
-use model::interface;
+use model::interface::{self, Fields, Found, Progress, Sizes};
 
 /// A number from the edges of the limits, or any.
 fn number(rng: &mut Rng) -> u64 {
@@ -52,6 +52,30 @@ fn mostly(rng: &mut Rng, good: u64) -> u64 {
     }
 }
 
+/// The store's sizes, each mostly; those that a call does not look at are any.
+fn mostly_sizes(rng: &mut Rng, store: &Store, looked_at: [bool; 5]) -> Sizes {
+    let [s, b, r, k, n] = store.sizes().numbers();
+    let mut size = |good: u64, looked_at: bool| {
+        if looked_at {
+            mostly(rng, good)
+        } else {
+            number(rng)
+        }
+    };
+    Sizes {
+        segment_size: size(s, looked_at[0]),
+        first_position: size(b, looked_at[1]),
+        queue_entries: size(r, looked_at[2]),
+        slot_count: size(k, looked_at[3]),
+        item_count: size(n, looked_at[4]),
+    }
+}
+
+const OF_THE_LOG: [bool; 5] = [true, true, false, false, false];
+const OF_A_QUEUE: [bool; 5] = [false, false, true, false, false];
+const OF_THE_INDEX: [bool; 5] = [false, false, false, true, true];
+const ALL: [bool; 5] = [true; 5];
+
 /// Mostly the good bytes, else longer, shorter, or with some bytes changed.
 fn mostly_bytes(rng: &mut Rng, good: &[u8]) -> Vec<u8> {
     let mut bytes = good.to_vec();
@@ -95,9 +119,8 @@ fn append_answers_from_the_table() {
     let mut seen = BTreeSet::new();
     for_seeds(4_000, |_, rng| {
         let store = any_store(rng);
-        let shape = store.log_shape;
-        let s = mostly(rng, shape.segment_size);
-        let b = mostly(rng, shape.first_position);
+        let sizes = mostly_sizes(rng, &store, OF_THE_LOG);
+        let (s, b) = (sizes.segment_size, sizes.first_position);
         let good_w = b.wrapping_add(rng.below(store.log.len() as u64 + 9));
         let given = mostly(rng, good_w);
         let (properties, _, _) = random_properties(rng);
@@ -105,25 +128,27 @@ fn append_answers_from_the_table() {
         let topic = mostly_bytes(rng, b"T");
         let body_length = rng.pick(&[0, 1, 200, 900, 932]);
         let body = rng.bytes(body_length);
-        let (system_flag, store_time) = (mostly(rng, 4) as u32, mostly(rng, 77));
-        let queue_id = mostly(rng, 0) as u32;
+        let fields = Fields {
+            body_crc: mostly(rng, MAX_4),
+            queue_id: mostly(rng, 0),
+            flag: mostly(rng, MAX_4),
+            queue_offset: number(rng),
+            system_flag: mostly(rng, 4),
+            born_time: number(rng),
+            store_time: mostly(rng, 77),
+            reconsume_times: mostly(rng, MAX_4),
+            prepared_offset: number(rng),
+        };
+        let host = rng.bytes(8);
+        let (born_host, store_host) = (mostly_bytes(rng, &host), mostly_bytes(rng, &host));
         let mut log = store.log.clone();
         let mut w = given;
         let answer = interface::append(
             &mut log,
-            s,
-            b,
-            number(rng) as u32,
-            queue_id,
-            number(rng) as u32,
-            number(rng),
-            system_flag,
-            number(rng),
-            number(rng),
-            store_time,
-            number(rng),
-            number(rng) as u32,
-            number(rng),
+            &sizes,
+            &fields,
+            &born_host,
+            &store_host,
             &body,
             &topic,
             &properties,
@@ -162,11 +187,15 @@ fn record_reading_answers_from_the_table() {
         };
         let p = mostly(rng, good_p);
         let e = mostly(rng, store.readable_end);
-        let (answer, out) = read(&store.log, s, b, p, e);
+        let (answer, record) = read(&store.log, s, b, p, e);
         seen.insert(answer);
         if answer == 0 {
-            assert!(matches!(out[0], 1 | 2));
-            assert!(out[1] >= 8 && p + out[1] <= e);
+            assert!(matches!(record.kind, 1 | 2));
+            assert!(record.total >= 8 && p + record.total <= e);
+        }
+        if record.kind == 1 {
+            let properties = record.properties;
+            assert_eq!(properties.at + properties.length, record.total);
         }
     });
     assert_eq!(seen, BTreeSet::from([0, 1, 2, 8, 10]));
@@ -177,21 +206,19 @@ fn dispatch_answers_from_the_table() {
     let mut seen = BTreeSet::new();
     for_seeds(4_000, |_, rng| {
         let store = any_store(rng);
-        let s = mostly(rng, store.log_shape.segment_size);
-        let b = mostly(rng, store.log_shape.first_position);
+        let sizes = mostly_sizes(rng, &store, ALL);
+        let b = sizes.first_position;
         let e = if rng.one_in(4) {
             b.wrapping_add(rng.below(store.log.len() as u64 + 2))
         } else {
             mostly(rng, store.readable_end)
         };
         let budget = rng.pick(&[0, 1, 3, 100, MAX]);
-        let r = mostly(rng, store.queue_entries);
-        let k = mostly(rng, store.index_shape.slot_count);
-        let n = mostly(rng, store.index_shape.item_count);
-        let mut given = store.state.progress.numbers();
+        let mut given = Progress::from(store.state.progress).numbers();
         if rng.one_in(12) {
             given[rng.below(17) as usize] = number(rng);
         }
+        let given = Progress::from_numbers(&given);
         let call = |budget: u64| {
             let mut progress = given;
             let mut queues = store.state.queues.clone();
@@ -199,14 +226,10 @@ fn dispatch_answers_from_the_table() {
             let mut steps = 77;
             let answer = interface::dispatch(
                 &store.log,
-                s,
-                b,
                 e,
+                &sizes,
                 &store.directory,
-                r,
                 &mut queues,
-                k,
-                n,
                 &mut index,
                 budget,
                 &mut progress,
@@ -247,8 +270,7 @@ fn query_answers_from_the_table() {
             }
         }
         let before = store.state.index.clone();
-        let k = mostly(rng, store.index_shape.slot_count);
-        let n = mostly(rng, store.index_shape.item_count);
+        let sizes = mostly_sizes(rng, &store, OF_THE_INDEX);
         let topic = mostly_bytes(rng, b"T");
         let key = rng.pick(&common::random::KEYS);
         let key = mostly_bytes(rng, key.as_bytes());
@@ -257,31 +279,32 @@ fn query_answers_from_the_table() {
         let wanted = mostly(rng, good_wanted);
         let places = rng.pick(&[0, 1, 4, 32, 40]);
         let mut out = vec![UNWRITTEN; places];
-        let mut counts = [7; 2];
+        let mut found = Found {
+            positions: 7,
+            items_read: 7,
+        };
         let answer = interface::query(
             &store.state.index,
-            k,
-            n,
+            &sizes,
             &topic,
             &key,
             first,
             last,
             wanted,
             &mut out,
-            &mut counts,
+            &mut found,
         );
         seen.insert(answer);
-        let [found, read] = counts;
-        assert!(found <= read);
-        assert!(out[found as usize..]
-            .iter()
-            .all(|place| *place == UNWRITTEN));
-        assert!(out[..found as usize]
-            .iter()
-            .all(|position| *position <= TWO_40));
+        let positions = found.positions as usize;
+        assert!(found.positions <= found.items_read);
+        assert!(out[positions..].iter().all(|place| *place == UNWRITTEN));
+        assert!(out[..positions].iter().all(|position| *position <= TWO_40));
         if matches!(answer, 1 | 4 | 17) {
-            assert_eq!(counts, [0; 2]);
+            assert_eq!(found, Found::default());
         }
+        // The check of an index file gives what the query's door gives of it.
+        let checked = interface::check_index(&store.state.index, &sizes);
+        assert_eq!(checked, if matches!(answer, 1 | 4) { answer } else { 0 });
         assert_eq!(store.state.index, before);
     });
     assert_eq!(seen, BTreeSet::from([0, 1, 4, 16, 17]));
@@ -293,10 +316,11 @@ fn queue_reading_answers_from_the_table() {
     for_seeds(4_000, |_, rng| {
         let mut store = any_store(rng);
         store.run(100);
-        let r = mostly(rng, store.queue_entries);
-        let mut counts = store.state.progress.counts.map(|count| count.0);
+        let sizes = mostly_sizes(rng, &store, OF_A_QUEUE);
+        let mut progress = Progress::from(store.state.progress);
+        progress.position = number(rng);
         if rng.one_in(12) {
-            counts[rng.below(16) as usize] = number(rng);
+            progress.counts[rng.below(16) as usize] = number(rng);
         }
         let row = mostly(rng, 0);
         let good_start = rng.below(3);
@@ -307,9 +331,9 @@ fn queue_reading_answers_from_the_table() {
         let mut found = 7;
         let answer = interface::read_queue(
             &store.state.queues,
-            r,
+            &sizes,
             &store.directory,
-            &counts,
+            &progress,
             row,
             start,
             wanted,
@@ -342,32 +366,29 @@ fn bytes_that_nobody_made() {
             buffers.push(bytes);
         }
         let numbers: Vec<u64> = (0..24).map(|_| number(rng)).collect();
-        let mut out_17 = [0; 17];
-        let a = interface::read_record(
-            &buffers[0],
-            numbers[0],
-            numbers[1],
-            numbers[2],
-            numbers[3],
-            &mut out_17,
-        );
+        let sizes = Sizes {
+            segment_size: numbers[0],
+            first_position: numbers[1],
+            queue_entries: numbers[2],
+            slot_count: numbers[21],
+            item_count: numbers[22],
+        };
+        let mut record = interface::Record::default();
+        let (position, readable_end) = (numbers[2], numbers[3]);
+        let a = interface::read_record(&buffers[0], &sizes, position, readable_end, &mut record);
         assert!(matches!(a, 0 | 1 | 2 | 8 | 10));
         let (log, rest) = buffers.split_at_mut(1);
         let (directory, rest) = rest.split_at_mut(1);
         let (queues, index) = rest.split_at_mut(1);
-        let mut progress = [0; 17];
-        progress.copy_from_slice(&numbers[4..21]);
+        let given = numbers[4..21].try_into().unwrap();
+        let mut progress = Progress::from_numbers(given);
         let mut steps = 0;
         let a = interface::dispatch(
             &log[0],
-            numbers[0],
-            numbers[1],
-            numbers[3],
+            readable_end,
+            &sizes,
             &directory[0],
-            numbers[2],
             &mut queues[0],
-            numbers[21],
-            numbers[22],
             &mut index[0],
             numbers[23],
             &mut progress,
@@ -377,26 +398,25 @@ fn bytes_that_nobody_made() {
         let a = model::lister::list(&log[0]).answer.number();
         assert!(matches!(a, 0 | 1 | 10));
         let mut out = [0; 5];
-        let mut counts = [0; 2];
+        let mut found = Found::default();
         let a = interface::query(
             &index[0],
-            numbers[0],
-            numbers[1],
+            &sizes,
             &directory[0],
             &queues[0],
             numbers[2],
             numbers[3],
             numbers[4],
             &mut out,
-            &mut counts,
+            &mut found,
         );
         assert!(matches!(a, 0 | 1 | 4 | 16 | 17));
         let mut found = 0;
         let a = interface::read_queue(
             &queues[0],
-            numbers[0],
+            &sizes,
             &directory[0],
-            &[numbers[1]; 16],
+            &progress,
             numbers[2],
             numbers[3],
             numbers[4],
@@ -406,5 +426,22 @@ fn bytes_that_nobody_made() {
             &mut found,
         );
         assert!(matches!(a, 0 | 1 | 2 | 3 | 17));
+        // The small functions, on the same.
+        assert!(interface::makes_entry(numbers[7]) <= 1);
+        let items = interface::item_count(numbers[7], &queues[0]);
+        assert!(items <= queues[0].len() as u64);
+        let a = interface::has_item(numbers[7], &log[0], &queues[0], &log[0], &directory[0]);
+        assert!(a <= 1 && u64::from(a) <= items);
+        let code = interface::tag_code(&queues[0]) as i64;
+        assert_eq!(code, i64::from(code as i32));
+        let mut values = interface::Values::default();
+        interface::find_values(&queues[0], &mut values);
+        for place in [values.tags, values.keys, values.unique_key] {
+            assert!(place.at + place.length <= queues[0].len() as u64);
+        }
+        assert!(matches!(
+            interface::check_index(&index[0], &sizes),
+            0 | 1 | 4
+        ));
     });
 }

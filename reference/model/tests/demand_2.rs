@@ -6,7 +6,6 @@ use common::random::{random_store, Plan, Sent};
 use common::*;
 use model::commit_log::{entry_at, read_record, Entry};
 use model::index_file::{empty, Question};
-use model::record::Record;
 use model::LogPosition;
 
 const GOOD: Plan = Plan {
@@ -89,12 +88,23 @@ fn a95_a_record_read_back_has_the_fields_appended() {
                 let p = LogPosition(message.position);
                 let reading = read_record(&log, shape, p, LogPosition(e));
                 assert_eq!(reading.answer.number(), 0);
-                let record = Record {
-                    total: i128::from(total),
-                    log_position: p,
-                    message: message.message(),
+                let Some(Entry::Record(record)) = reading.entry else {
+                    panic!("no record");
                 };
-                assert_eq!(reading.entry, Some(Entry::Record(record)));
+                assert_eq!(record.total, i128::from(total));
+                assert_eq!(record.log_position, p);
+                assert_eq!(record.message, message.message());
+                // Each part stands at its place in the record.
+                let own = &log[place..place + total as usize];
+                for (part, expected) in [
+                    (record.places.born_host, &message.other.born_host),
+                    (record.places.store_host, &message.other.store_host),
+                    (record.places.body, &message.body),
+                    (record.places.topic, &message.topic),
+                    (record.places.properties, &message.properties),
+                ] {
+                    assert_eq!(part.of(own), expected);
+                }
             }
         }
     });

@@ -5,9 +5,10 @@ mod common;
 use common::*;
 use model::consume_queue::QueueRequest;
 use model::index_file::Question;
+use model::interface::{self, Found, Progress, Record, Sizes};
 use model::record::Message;
 use model::sizes::{IndexShape, LogShape};
-use model::{interface, QueuePlace};
+use model::QueuePlace;
 
 fn queue_request() -> QueueRequest {
     QueueRequest {
@@ -165,17 +166,20 @@ fn a4_a_segment_size_need_not_be_a_power_of_two() {
     let mut log = vec![0; 2_050];
     let (answer, w) = append(&mut log, 1_025, 1_025, &rec(), 2_050);
     assert_eq!((answer, w), (0, 2_142));
-    assert_eq!(read(&log, 1_025, 1_025, 2_050, 2_142).1[..2], [1, 92]);
+    let (_, record) = read(&log, 1_025, 1_025, 2_050, 2_142);
+    assert_eq!((record.kind, record.total), (1, 92));
 }
 
 #[test]
 fn a5_a_refusal_returns_w_and_progress_as_given_and_0_for_all_else() {
     // Record reading at rec(0) with E = 91: total 0, not 92.
     let log = log_with_rec(1_024);
-    assert_eq!(read(&log, 1_024, 0, 0, 91), (8, [0; 17]));
-    assert_eq!(read(&log, 1_024, 0, 1, 92), (10, [0; 17]));
-    assert_eq!(read(&log, 1_024, 0, 1, 0), (2, [0; 17]));
-    assert_eq!(read(&log, 0, 0, 0, 92), (1, [0; 17]));
+    let nothing = Record::default();
+    assert_eq!(nothing.numbers(), [0; 22]);
+    assert_eq!(read(&log, 1_024, 0, 0, 91), (8, nothing));
+    assert_eq!(read(&log, 1_024, 0, 1, 92), (10, nothing));
+    assert_eq!(read(&log, 1_024, 0, 1, 0), (2, nothing));
+    assert_eq!(read(&log, 0, 0, 0, 92), (1, nothing));
 
     // Append: W as given, even a wild one.
     let mut log = vec![0xEE; 1_024];
@@ -191,41 +195,57 @@ fn a5_a_refusal_returns_w_and_progress_as_given_and_0_for_all_else() {
     assert_eq!(log, before);
 
     // Dispatch: the whole progress as given, bad counts too; steps are overwritten with 0.
-    let mut progress = [MAX; 17];
+    let given = Progress {
+        position: MAX,
+        counts: [MAX; 16],
+    };
+    let mut progress = given;
     let mut steps = 5;
     let (mut queues, mut index) = (vec![1; 7], vec![2; 9]);
+    let sizes = Sizes {
+        segment_size: 1_024,
+        first_position: 0,
+        queue_entries: 4,
+        slot_count: 1,
+        item_count: 2,
+    };
     let refused = interface::dispatch(
         &log,
-        1_024,
-        0,
         MAX,
+        &sizes,
         &[],
-        4,
         &mut queues,
-        1,
-        2,
         &mut index,
         MAX,
         &mut progress,
         &mut steps,
     );
-    assert_eq!((refused, steps, progress), (1, 0, [MAX; 17]));
+    assert_eq!((refused, steps, progress), (1, 0, given));
     assert_eq!((queues, index), (vec![1; 7], vec![2; 9]));
 
     // Query and queue reading: found 0, items read 0, output untouched.
     let mut out = [UNWRITTEN; 3];
-    let mut counts = [5; 2];
-    let refused = interface::query(&[], 0, 0, b"T", b"k", 0, 1, 1, &mut out, &mut counts);
-    assert_eq!((refused, counts, out), (1, [0; 2], [UNWRITTEN; 3]));
+    let none = Sizes::default();
+    let mut found = Found {
+        positions: 5,
+        items_read: 5,
+    };
+    let refused = interface::query(&[], &none, b"T", b"k", 0, 1, 1, &mut out, &mut found);
+    assert_eq!((refused, found, out), (1, Found::default(), [UNWRITTEN; 3]));
     let mut found = 5;
-    let refused = interface::read_queue(&[], 0, &[], &[0; 16], 0, 0, 1, 0, 0, &mut out, &mut found);
+    let start = Progress::default();
+    let refused =
+        interface::read_queue(&[], &none, &[], &start, 0, 0, 1, 0, 0, &mut out, &mut found);
     assert_eq!((refused, found, out), (1, 0, [UNWRITTEN; 3]));
 
     // A blank's answer 0 carries its length, and no field.
     let mut log = vec![0xEE; 1_024];
     patch(&mut log, 0, &blank(1_024));
-    let mut expected = [0; 17];
-    expected[..2].copy_from_slice(&[2, 1_024]);
+    let expected = Record {
+        kind: 2,
+        total: 1_024,
+        ..Record::default()
+    };
     assert_eq!(read(&log, 1_024, 0, 0, 1_024), (0, expected));
 }
 

@@ -4,6 +4,7 @@ mod common;
 
 use common::*;
 use model::consume_queue::QueueRequest;
+use model::interface::{self, Progress, Sizes};
 use model::QueuePlace;
 
 /// D1, R = 4, three entries at 10, 20, 30 with tag codes 5, 6, 6.
@@ -73,13 +74,20 @@ fn a87_the_optional_tag() {
     // The flag off: the value is ignored. Any flag but 0 is on.
     let mut out = [UNWRITTEN; 4];
     let mut found = 9;
-    let counts = store.state.progress.counts.map(|count| count.0);
+    let sizes = Sizes {
+        queue_entries: 4,
+        ..log_sizes(MAX, MAX)
+    };
+    let progress = Progress {
+        position: MAX,
+        ..store.state.progress.into()
+    };
     for (flag, expected) in [(0, 3), (1, 1), (2, 1), (u32::MAX, 1)] {
-        let answer = model::interface::read_queue(
+        let answer = interface::read_queue(
             &store.state.queues,
-            4,
+            &sizes,
             &store.directory,
-            &counts,
+            &progress,
             0,
             0,
             4,

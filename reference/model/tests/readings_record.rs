@@ -3,6 +3,7 @@
 mod common;
 
 use common::*;
+use model::interface::Fields;
 use model::record::{encode, Message};
 use model::LogPosition;
 
@@ -29,9 +30,9 @@ fn the_fixed_fields_stand_at_their_places() {
         queue_offset: 0x1415_1617_1819_1A1B,
         system_flag: 0x2425_2607,
         born_time: 0x2829_2A2B_2C2D_2E2F,
-        born_host: 0x3031_3233_3435_3637,
+        born_host: &[0x30, 0x31, 0x32, 0x33, 0x34, 0x35, 0x36, 0x37],
         store_time: 0x0000_3A3B_3C3D_3E3F,
-        store_host: 0x4041_4243_4445_4647,
+        store_host: &[0x40, 0x41, 0x42, 0x43, 0x44, 0x45, 0x46, 0x47],
         reconsume_times: 0x4849_4A4B,
         prepared_offset: 0x4C4D_4E4F_5051_5253,
         body: b"XY",
@@ -76,23 +77,24 @@ fn a13_a_negative_body_length_that_adds_up_is_damage() {
 #[test]
 fn a14_only_the_store_time_is_judged() {
     let message = Message {
-        body_crc: u32::MAX,
-        flag: u32::MAX,
+        body_crc: MAX_4,
+        flag: MAX_4,
         queue_offset: MAX,
         born_time: MAX,
-        born_host: MAX,
-        store_host: MAX,
-        reconsume_times: u32::MAX,
+        born_host: &[0xFF; 8],
+        store_host: &[0xFF; 8],
+        reconsume_times: MAX_4,
         prepared_offset: MAX,
         ..rec()
     };
     let mut log = vec![0; 1_024];
     assert_eq!(append(&mut log, 1_024, 0, &message, 0), (0, 92));
-    let all = u64::from(u32::MAX);
-    let expected = [
-        1, 92, all, 0, all, MAX, 0, 0, MAX, MAX, 10_000, MAX, all, MAX, 0, 1, 0,
-    ];
-    assert_eq!(read(&log, 1_024, 0, 0, 92), (0, expected));
+    let (answer, record) = read(&log, 1_024, 0, 0, 92);
+    assert_eq!(answer, 0);
+    assert_eq!(record.fields, Fields::of(&message));
+    for host in [record.born_host, record.store_host] {
+        assert_eq!(log[host.at as usize..][..host.length as usize], [0xFF; 8]);
+    }
 
     for (time, append_answer, read_answer) in
         [(0, 0, 0), (TWO_48 - 1, 0, 0), (TWO_48, 5, 10), (MAX, 5, 10)]
@@ -177,8 +179,8 @@ fn a18_blank_rules() {
     let at_92 = |total: u32, e: u64| {
         let mut log = vec![0xEE; 1_024];
         patch(&mut log, 92, &blank(total));
-        let (answer, out) = read(&log, 1_024, 0, 92, e);
-        (answer, out[0], out[1])
+        let (answer, record) = read(&log, 1_024, 0, 92, e);
+        (answer, record.kind, record.total)
     };
     assert_eq!(at_92(932, 1_000), (8, 0, 0));
     assert_eq!(at_92(932, 1_023), (8, 0, 0));
@@ -191,8 +193,8 @@ fn a18_blank_rules() {
     let mut log = vec![0; 2_048];
     patch(&mut log, 0, &blank(1_024));
     patch(&mut log, 2_040, &blank(8));
-    assert_eq!(read(&log, 1_024, 0, 0, 1_024).1[..2], [2, 1_024]);
-    assert_eq!(read(&log, 1_024, 0, 2_040, 2_048).1[..2], [2, 8]);
+    assert_eq!(read(&log, 1_024, 0, 0, 1_024).1.numbers()[..2], [2, 1_024]);
+    assert_eq!(read(&log, 1_024, 0, 2_040, 2_048).1.numbers()[..2], [2, 8]);
 
     // After a blank in the last segment: position = B + length = E.
     let mut store = Store::new();
@@ -324,16 +326,16 @@ fn a25_a_record_or_a_blank() {
     let mut log = log_with_rec(1_024);
     patch(&mut log, 92, &blank(932));
     let (answer_0, record) = read(&log, 1_024, 0, 0, 1_024);
-    assert_eq!((answer_0, record[0], record[1]), (0, 1, 92));
+    assert_eq!((answer_0, record.kind, record.total), (0, 1, 92));
     let (answer_92, blank) = read(&log, 1_024, 0, 92, 1_024);
-    assert_eq!((answer_92, blank[0], blank[1]), (0, 2, 932));
-    assert_eq!(blank[2..], [0; 15]);
+    assert_eq!((answer_92, blank.kind, blank.total), (0, 2, 932));
+    assert_eq!(blank.numbers()[2..], [0; 20]);
 }
 
 #[test]
 fn a_queue_id_is_not_negative() {
     for (queue_id, read_answer, append_answer) in
-        [(0x7FFF_FFFF, 0, 0), (0x8000_0000, 10, 5), (u32::MAX, 10, 5)]
+        [(0x7FFF_FFFF, 0, 0), (0x8000_0000, 10, 5), (MAX_4, 10, 5)]
     {
         let message = Message { queue_id, ..rec() };
         assert_eq!(at_0(&raw(&message, 0), 92), read_answer);

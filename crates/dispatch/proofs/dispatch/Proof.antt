@@ -1,6 +1,6 @@
 -- `dispatch::dispatch` meets its contract: the checks of the door in their order, then the steps. Assumes nothing.
-use Rattle.commit_log.proofs.Doors.{taken, refused}
-use Rattle.dispatch.proofs.Doors.{sizes-known, index-long, door-sizes, door-directory, door-position, door-header, door-open, door-sound, call-shut, call-runs}
+use Rattle.commit_log.proofs.LogDoor.{taken, refused}
+use Rattle.dispatch.proofs.DispatchDoor.{sizes-known, index-long, door-sizes, door-directory, door-position, door-header, door-open, door-sound, call-shut, call-runs}
 use borrow.Author.Needs.{needs}
 use Rattle.dispatch.proofs.dispatch.Statement.{statement}
 use Rattle.dispatch.proofs.dispatch.Tie as tie

@@ -1,5 +1,5 @@
 -- `dispatch::progress_bad` meets its contract: its tests are the definition's. Assumes nothing.
-use Rattle.dispatch.proofs.Doors.{progress-judged}
+use Rattle.dispatch.proofs.DispatchDoor.{progress-judged}
 use borrow.Author.Needs.{needs}
 use Rattle.dispatch.proofs.progress_bad.Statement.{statement}
 use Rattle.dispatch.proofs.progress_bad.Tie as tie

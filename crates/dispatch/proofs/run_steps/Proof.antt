@@ -5,7 +5,7 @@ use native.Mathlib.Omega.{arith}
 use lib.ListN.{length}
 use Rattle.dispatch_request.specs.Request.{viewOf}
 use Rattle.dispatch_step.specs.Step.{fixedOf, stateOf}
-use Rattle.dispatch_step.proofs.Going.{Going, going-start}
+use Rattle.dispatch_step.proofs.StepKeeps.{Going, going-start}
 use Rattle.dispatch.proofs.Running.{going-on, going-steps, runs-stopped, runs-long, runs-spent}
 use borrow.Author.Needs.{needs}
 use Rattle.dispatch.proofs.run_steps.Statement.{statement}

@@ -1,5 +1,5 @@
 -- `dispatch::sizes_fit` meets its contract: its three tests are the definition's. Assumes nothing.
-use Rattle.dispatch.proofs.Doors.{sizes-judged}
+use Rattle.dispatch.proofs.DispatchDoor.{sizes-judged}
 use borrow.Author.Needs.{needs}
 use Rattle.dispatch.proofs.sizes_fit.Statement.{statement}
 use Rattle.dispatch.proofs.sizes_fit.Tie as tie

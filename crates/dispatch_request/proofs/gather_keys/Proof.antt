@@ -3,7 +3,7 @@ use Prim.Native.Nat.{_-_}
 use mathlib.Core.Path.{sym, _∙_}
 use native.Mathlib.Omega.{arith}
 use lib.ListN.{length}
-use Rattle.properties.specs.Claims.{Leads}
+use Rattle.properties.specs.Claims.{KeyLeads}
 use Rattle.properties.proofs.Keys.{key-next, key-done}
 use Rattle.dispatch_request.proofs.Gathering.{Gathering, gathering-start, gathering-on, gathering-end, gathering-full}
 use borrow.Author.Needs.{needs}
@@ -20,7 +20,7 @@ loop-holds : tie.Need-loop-holds Inv-loop μ-loop
 loop-holds c = gathering-start _ _ _ _ (c .before .before .pre)
 
 -- the key that came
-told : (c : tie.After-next Inv-loop μ-loop) → Leads (c .before .before .before .loop .at) (c .before .before .before .before .before .before .args .keys .now) (c .next .given .0 .0)
+told : (c : tie.After-next Inv-loop μ-loop) → KeyLeads (c .before .before .before .loop .at) (c .before .before .before .before .before .before .args .keys .now) (c .next .given .0 .0)
 told c = key-next _ _ _ (c .before .before .before .loop .inv .low) (sym (c .before .before .next-key .ensures) ∙ c .next .given .1)
 
 add-result : tie.Need-add-result Inv-loop μ-loop

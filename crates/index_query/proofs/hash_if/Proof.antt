@@ -1,5 +1,5 @@
 -- `index_file::hash_if` meets its contract, by its test. Assumes nothing.
-use Rattle.index_query.proofs.Doors.{unasked}
+use Rattle.index_query.proofs.QueryDoor.{unasked}
 use borrow.Author.Needs.{needs}
 use Rattle.index_query.proofs.hash_if.Statement.{statement}
 use Rattle.index_query.proofs.hash_if.Tie as tie

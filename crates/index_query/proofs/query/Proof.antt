@@ -1,5 +1,5 @@
 -- `index_file::query` meets its contract: the door, then the walk. Assumes nothing.
-use Rattle.index_query.proofs.Doors.{refused-sizes, refused-header, refused-query, asked, accepted}
+use Rattle.index_query.proofs.QueryDoor.{refused-sizes, refused-header, refused-query, asked, accepted}
 use Rattle.index_file.proofs.Judged.{sizes-long}
 use borrow.Author.Needs.{needs}
 use Rattle.index_query.proofs.query.Statement.{statement}

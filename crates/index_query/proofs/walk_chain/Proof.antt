@@ -1,7 +1,7 @@
 -- `index_file::walk_chain` meets its contract. The loop's invariant, `Going`: what is found so far and the walk from here are the whole. Assumes nothing.
 use mathlib.Core.Path.{sym, _∙_}
 use native.Mathlib.Omega.{arith}
-use Rattle.index_query.proofs.Turns.{Going, begins, out-enough, out-last, out-high, out-damaged, out-early, again-pass, again-match}
+use Rattle.index_query.proofs.WalkLoop.{Going, begins, out-enough, out-last, out-high, out-damaged, out-early, again-pass, again-match}
 use borrow.Author.Needs.{needs}
 use Rattle.index_query.proofs.walk_chain.Statement.{statement}
 use Rattle.index_query.proofs.walk_chain.Tie as tie

@@ -1,11 +1,12 @@
--- `swistopal::swistopal_list` meets its contract. Assumes nothing.
+-- `swistopal::swistopal_list` meets its contract: its layer's outcome, in numbers. Assumes nothing.
 use Rattle.swistopal.proofs.Made.{list-made}
 use borrow.Author.Needs.{needs}
 use Rattle.swistopal.proofs.swistopal_list.Statement.{statement}
 use Rattle.swistopal.proofs.swistopal_list.Tie as tie
 
 returns : tie.Need-returns
-returns c = list-made _ _ _ _ (c .before .before .before .list .ensures) (c .number .ensures)
+returns c = let l = c .before .before .before in list-made _ _ _ _ (l .list .ensures) (c .number .ensures)
 
 pub swistopal-list-spec : {M : Type 1} → statement M
-swistopal-list-spec = tie.close (tie.spec (search needs) (search needs) (search needs) returns)
+swistopal-list-spec =
+    tie.close (tie.spec (search needs) (search needs) (search needs) returns)

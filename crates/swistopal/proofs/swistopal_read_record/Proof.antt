@@ -1,11 +1,12 @@
--- `swistopal::swistopal_read_record` meets its contract. Assumes nothing.
+-- `swistopal::swistopal_read_record` meets its contract: its layer's outcome, in numbers. Assumes nothing.
 use Rattle.swistopal.proofs.Made.{record-read}
 use borrow.Author.Needs.{needs}
 use Rattle.swistopal.proofs.swistopal_read_record.Statement.{statement}
 use Rattle.swistopal.proofs.swistopal_read_record.Tie as tie
 
 returns : tie.Need-returns
-returns c = record-read _ _ _ _ (c .before .read-record .ensures) (c .number .ensures)
+returns c = let r = c .before in record-read _ _ _ _ _ _ _ (r .before .before .geometry-in .ensures) (r .read-record .ensures) (c .number .ensures)
 
 pub swistopal-read-record-spec : {M : Type 1} → statement M
-swistopal-read-record-spec = tie.close (tie.spec (search needs) (search needs) returns)
+swistopal-read-record-spec =
+    tie.close (tie.spec (search needs) (search needs) (search needs) returns)

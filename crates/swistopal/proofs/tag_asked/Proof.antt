@@ -1,4 +1,4 @@
--- `swistopal::tag_asked` meets its contract. Assumes nothing.
+-- `swistopal::tag_asked` meets its contract: by its two ways. Assumes nothing.
 use borrow.Author.Tests.{eq-eqb, ne-eqb}
 use Rattle.codec.specs.Choice.{pick}
 use Rattle.swistopal.specs.Interface.{tagAsked}
@@ -14,4 +14,5 @@ unfolding tagAsked pick
 returns-2 c = rw (ne-eqb _ 0 (c .if1 .left))
 
 pub tag-asked-spec : {M : Type 1} → statement M
-tag-asked-spec = tie.close (tie.spec returns returns-2)
+tag-asked-spec =
+    tie.close (tie.spec returns returns-2)

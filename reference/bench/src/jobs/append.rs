@@ -73,10 +73,7 @@ fn measure(effort: Effort, body: usize, state: State) -> Row {
         State::Cold => (effort.records(96) as usize * (1 << 20), effort.batches(15)),
     };
     let mut context = Context {
-        log: Log {
-            bytes: vec![0; log_size],
-            segment_size: log_size as u64,
-        },
+        log: Log::new(log_size, log_size as u64),
         message: message(1, Keys::Distinct, body),
         lap: (256 << 10) / body,
         state,

@@ -28,17 +28,15 @@ fn context(
     entries: u64,
     sizes: (u64, u64),
 ) -> Context {
-    let mut log = Log {
-        bytes: vec![0; log_size],
-        segment_size: log_size as u64,
-    };
+    let mut log = Log::new(log_size, log_size as u64);
     let mut end = 0;
     let answer = ARCHIVE.append(&mut log, &message(0, Keys::Many(1), 100), &mut end);
     assert_eq!(answer, 0, "append of a record");
+    let filed = filed(&log, rows, queues, entries, index(sizes.0, sizes.1));
     Context {
         log,
         end,
-        filed: filed(rows, queues, entries, index(sizes.0, sizes.1)),
+        filed,
         budget: 0,
     }
 }
@@ -46,7 +44,8 @@ fn context(
 /// One call on an empty index: the bytes that a call before it has written there are taken back.
 #[inline(always)]
 fn call(store: &Store, context: &mut Context, slot: usize) -> (u32, u64) {
-    context.filed.progress[..2].fill(0);
+    context.filed.progress.position = 0;
+    context.filed.progress.counts[0] = 0;
     context.filed.index.bytes[..40].fill(0);
     context.filed.index.bytes[slot..slot + 4].fill(0);
     store.dispatch(
@@ -70,7 +69,7 @@ fn side(store: &'static Store, slot: usize) -> impl Fn(&mut Context, &mut Laps) 
 /// The bytes that a call can write: header, slots up to the one that is taken, first items; the first queue entries.
 fn written_bytes(context: &Context, slot: usize) -> Vec<u8> {
     let index = &context.filed.index;
-    let items = 40 + 4 * index.slot_count as usize;
+    let items = 40 + 4 * index.sizes.slot_count as usize;
     let mut bytes = index.bytes[..40].to_vec();
     bytes.extend_from_slice(&index.bytes[slot..slot + 4]);
     bytes.extend_from_slice(&index.bytes[items..items + 40]);

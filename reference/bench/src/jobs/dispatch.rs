@@ -1,5 +1,6 @@
 //! Dispatch of a whole log into empty queues and an empty index.
 
+use crate::archive::Progress;
 use crate::data::{directory, entries_for, filed, index, written, Keys, Written, TOPIC};
 use crate::effort::Effort;
 use crate::plain::trace::{Followed, Trace};
@@ -23,7 +24,7 @@ struct Context {
 fn empty(context: &mut Context) {
     context.filed.queues.fill(0);
     context.filed.index.bytes.fill(0);
-    context.filed.progress = [0; 17];
+    context.filed.progress = Progress::default();
     context.sweep.run();
 }
 
@@ -67,14 +68,17 @@ fn check(context: &mut Context) {
 }
 
 fn context(records: u64, queues: u64, slot_count: u64, item_count: u64) -> Context {
+    let written = written(records, queues, Keys::Distinct);
+    let filed = filed(
+        &written.log,
+        directory(queues, TOPIC),
+        queues,
+        entries_for(records, queues),
+        index(slot_count, item_count),
+    );
     Context {
-        written: written(records, queues, Keys::Distinct),
-        filed: filed(
-            directory(queues, TOPIC),
-            queues,
-            entries_for(records, queues),
-            index(slot_count, item_count),
-        ),
+        written,
+        filed,
         sweep: Sweep::new(),
     }
 }

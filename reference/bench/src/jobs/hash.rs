@@ -1,5 +1,6 @@
 //! The hash of a key, as the time that its bytes add to a query on an empty index.
 
+use crate::archive::Found;
 use crate::data::{directory, filed, index, message, mixed, Keys};
 use crate::effort::Effort;
 use crate::report::Row;
@@ -30,6 +31,12 @@ const RANGE: Range = Range {
     wanted: 1,
 };
 
+/// One item read, and its position found.
+const ONE: Found = Found {
+    positions: 1,
+    items_read: 1,
+};
+
 fn side(store: &'static Store, length: usize) -> impl Fn(&mut Context, &mut Laps) {
     move |context, laps| {
         laps.time(|| {
@@ -47,25 +54,22 @@ fn check(context: &mut Context, length: usize) {
     let with_key = index_with(key);
     for store in [&ARCHIVE, &PLAIN, &BYTEWISE] {
         let found = store.query(&with_key, TOPIC, key, &ALL_TIMES, &mut context.out);
-        assert_eq!(found, (0, [1, 1]), "a query for a key");
+        assert_eq!(found, (0, ONE), "a query for a key");
         let missed = store.query(&context.index, TOPIC, key, &RANGE, &mut context.out);
-        assert_eq!(missed, (0, [0, 0]), "a query on an empty index");
+        assert_eq!(missed, (0, Found::default()), "a query on an empty index");
     }
 }
 
 /// The index of a log with one record, which has this key.
 fn index_with(key: &[u8]) -> Index {
-    let mut log = Log {
-        bytes: vec![0; 4096],
-        segment_size: 4096,
-    };
+    let mut log = Log::new(4096, 4096);
     let mut record = message(0, Keys::Distinct, 0);
     record.topic = TOPIC.to_vec();
     record.properties = [b"KEYS\x01", key].concat();
     let mut end = 0;
     let appended = ARCHIVE.append(&mut log, &record, &mut end);
     assert_eq!(appended, 0, "append of a record");
-    let mut filed = filed(directory(1, TOPIC), 1, 1, index(1, 2));
+    let mut filed = filed(&log, directory(1, TOPIC), 1, 1, index(1, 2));
     let dispatched = ARCHIVE.dispatch(&log, end, &mut filed, 1);
     assert_eq!(dispatched, (9, 1), "a step");
     filed.index

@@ -1,5 +1,6 @@
 //! Dispatch of records with many keys: the cost of a key must not grow.
 
+use crate::archive::Progress;
 use crate::data::{directory, entries_for, filed, index, written, Keys, Written, TOPIC};
 use crate::effort::Effort;
 use crate::report::Point;
@@ -15,7 +16,7 @@ struct Context {
 
 fn dispatch(store: &Store, context: &mut Context, laps: &mut Laps) -> (u32, u64) {
     context.filed.index.bytes.fill(0);
-    context.filed.progress = [0; 17];
+    context.filed.progress = Progress::default();
     let written = &context.written;
     let filed = &mut context.filed;
     laps.time(|| store.dispatch(&written.log, written.end, filed, u64::MAX))
@@ -46,15 +47,15 @@ pub fn run(effort: Effort, put: &mut dyn FnMut(Point)) {
     let mut first = None;
     for keys in [1, 2, 10, 100, 1000] {
         let records = (all / keys).max(1);
-        let mut context = Context {
-            written: written(records, 1, Keys::Many(keys)),
-            filed: filed(
-                directory(1, TOPIC),
-                1,
-                entries_for(records, 1),
-                index(SLOTS, records * keys + 1),
-            ),
-        };
+        let written = written(records, 1, Keys::Many(keys));
+        let filed = filed(
+            &written.log,
+            directory(1, TOPIC),
+            1,
+            entries_for(records, 1),
+            index(SLOTS, records * keys + 1),
+        );
+        let mut context = Context { written, filed };
         check(&mut context);
         let times = interleave(
             effort.batches(400),

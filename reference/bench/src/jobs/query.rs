@@ -72,7 +72,7 @@ fn number_at(index: &Index, at: usize) -> usize {
 /// The same slots and items and nothing else. Each place waits for the load before it, as it does for a caller who waits
 /// for an answer before he asks again.
 fn follow(index: &Index, chains: &[Chain]) -> usize {
-    let items = 40 + 4 * index.slot_count as usize;
+    let items = 40 + 4 * index.sizes.slot_count as usize;
     let mut last = 0;
     for chain in chains {
         let mut number = number_at(index, chain.slot + (black_box(last) >> 32));
@@ -104,14 +104,14 @@ fn check(context: &Context, matches: u64) -> Vec<Chain> {
             (read, out)
         };
         let expected = query(&ARCHIVE);
-        let (answer, counts) = expected.0;
+        let (answer, found) = expected.0;
         assert_eq!(answer, 0, "answer of a query");
         // Another key may have the same hash.
-        assert!(counts[0] >= matches, "matches of a query");
+        assert!(found.positions >= matches, "matches of a query");
         assert!(query(&PLAIN) == expected, "query");
         chains.push(Chain {
             slot: slot_of(key),
-            items: counts[1],
+            items: found.items_read,
         });
     }
     chains
@@ -133,6 +133,7 @@ pub fn run(effort: Effort, put: &mut dyn FnMut(Row)) {
     let orders = records / 32;
     let written = written(records, QUEUES, Keys::Grouped { orders, depots });
     let mut filed = filed(
+        &written.log,
         directory(QUEUES, TOPIC),
         QUEUES,
         entries_for(records, QUEUES),

@@ -67,7 +67,7 @@ fn results(store: &Store, context: &mut Context) -> Vec<((u32, u64), Vec<u64>)> 
 /// order of the entries.
 fn load(context: &mut Context, laps: &mut Laps) {
     let wanted = context.wanted as usize;
-    let region = context.filed.queue_entries as usize;
+    let region = context.filed.sizes.queue_entries as usize;
     let (at, times) = match context.tag_code {
         None => (0, 1),
         Some(_) => (12, TAGS),
@@ -90,6 +90,7 @@ fn load(context: &mut Context, laps: &mut Laps) {
 pub fn run(effort: Effort, put: &mut dyn FnMut(Row)) {
     let written = written(RECORDS, QUEUES, Keys::Distinct);
     let mut filed = filed(
+        &written.log,
         directory(QUEUES, TOPIC),
         QUEUES,
         entries_for(RECORDS, QUEUES),

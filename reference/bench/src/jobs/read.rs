@@ -1,14 +1,18 @@
 //! Record reading, one record after the other.
 
+use crate::archive::Record;
 use crate::data::{written, Keys, Written};
 use crate::effort::Effort;
 use crate::report::Row;
-use crate::store::{Store, ARCHIVE, PLAIN};
+use crate::store::{Store, ARCHIVE, PLAIN, UNREAD};
 use crate::timing::{interleave, Laps, State, Sweep};
 use std::hint::black_box;
 
 /// Records of a lap: they fit into the second cache.
 const LAP: usize = 800;
+
+/// The kind of a record that is no blank.
+const RECORD: u64 = 1;
 
 struct Context {
     written: Written,
@@ -24,10 +28,10 @@ fn side(store: &'static Store) -> impl Fn(&mut Context, &mut Laps) {
         let Written { log, end } = &context.written;
         for positions in context.positions.chunks(LAP) {
             laps.time(|| {
-                let mut out = [0; 17];
+                let mut record = Record::default();
                 for position in positions {
-                    black_box(store.read_record(log, *position, *end, &mut out));
-                    black_box(&out);
+                    black_box(store.read_record(log, *position, *end, &mut record));
+                    black_box(&record);
                 }
             });
         }
@@ -42,8 +46,8 @@ fn load(context: &mut Context, laps: &mut Laps) {
         laps.time(|| {
             for position in positions {
                 let at = *position as usize;
-                let mut out = [0; 17 * 8];
-                out.copy_from_slice(&bytes[at..at + 17 * 8]);
+                let mut out = [0; size_of::<Record>()];
+                out.copy_from_slice(&bytes[at..at + size_of::<Record>()]);
                 black_box(&out);
             }
         });
@@ -55,16 +59,16 @@ fn check(written: &Written) -> Vec<u64> {
     let mut positions = Vec::new();
     let mut position = 0;
     while position < written.end {
-        let mut expected = [u64::MAX; 17];
+        let mut expected = UNREAD;
         let answer = ARCHIVE.read_record(&written.log, position, written.end, &mut expected);
         assert_eq!(answer, 0, "a record or blank that reads");
-        let mut read = [0; 17];
+        let mut read = Record::default();
         let same = PLAIN.read_record(&written.log, position, written.end, &mut read);
         assert_eq!((same, read), (answer, expected), "record reading");
-        if read[0] == 1 {
+        if read.kind == RECORD {
             positions.push(position);
         }
-        position += read[1];
+        position += read.total;
     }
     positions
 }

@@ -5,10 +5,10 @@
 use super::answer;
 use super::bytes::{be32, be64};
 use super::dispatch::{call, duties, Job, Lent};
-use super::geometry::Geometry;
 use super::hash;
 use super::properties::Values;
 use super::record::{Entry, Record};
+use crate::archive::{Progress, Sizes};
 use std::arch::x86_64::{
     __m128i, _mm_cmpeq_epi8, _mm_loadu_si128, _mm_min_epu8, _mm_movemask_epi8, _mm_prefetch,
     _mm_set1_epi8, _MM_HINT_T0,
@@ -281,39 +281,29 @@ fn run(job: &mut Job) -> (u32, u64) {
 pub unsafe extern "C" fn dispatch(
     log: *const u8,
     log_len: usize,
-    segment_size: u64,
-    first_position: u64,
     readable_end: u64,
+    sizes: *const Sizes,
     directory: *const u8,
     directory_len: usize,
-    queue_entries: u64,
     queues: *mut u8,
     queues_len: usize,
-    slot_count: u64,
-    item_count: u64,
-    index: *mut u8,
-    index_len: usize,
+    files: *mut u8,
+    files_len: usize,
     budget: u64,
-    progress: *mut u64,
+    progress: *mut Progress,
     steps: *mut u64,
 ) -> u32 {
     call(
         Lent {
             log: std::slice::from_raw_parts(log, log_len),
-            geometry: Geometry {
-                segment_size,
-                first_position,
-            },
             readable_end,
+            sizes: &*sizes,
             directory: std::slice::from_raw_parts(directory, directory_len),
-            queue_entries,
             queues: std::slice::from_raw_parts_mut(queues, queues_len),
-            slot_count,
-            item_count,
-            index: std::slice::from_raw_parts_mut(index, index_len),
+            files: std::slice::from_raw_parts_mut(files, files_len),
             budget,
         },
-        &mut *progress.cast::<[u64; 17]>(),
+        &mut *progress,
         &mut *steps,
         run,
     )

@@ -1,5 +1,7 @@
 //! How a log is divided.
 
+use crate::archive::Sizes;
+
 const MAX_POSITION: u64 = 1 << 40;
 
 #[derive(Clone, Copy)]
@@ -9,6 +11,14 @@ pub struct Geometry {
 }
 
 impl Geometry {
+    #[inline(always)]
+    pub fn of(sizes: &Sizes) -> Geometry {
+        Geometry {
+            segment_size: sizes.segment_size,
+            first_position: sizes.first_position,
+        }
+    }
+
     /// Door check 1 of a log of so many bytes.
     #[inline(always)]
     pub fn fits(self, length: u64) -> bool {

@@ -4,6 +4,7 @@ use super::answer;
 use super::bytes::{be32, be64, put32, put64};
 use super::hash;
 use super::record::{MAX_PROPERTIES, MAX_TIME, MAX_TOPIC};
+use crate::archive::{Found, Sizes};
 
 const HEADER: usize = 40;
 const SLOT: usize = 4;
@@ -11,7 +12,8 @@ const ITEM: usize = 20;
 const MAX_POSITION: u64 = 1 << 40;
 
 #[inline(always)]
-pub fn sizes_fit(slot_count: u64, item_count: u64, length: usize) -> bool {
+pub fn sizes_fit(sizes: &Sizes, length: usize) -> bool {
+    let (slot_count, item_count) = (sizes.slot_count, sizes.item_count);
     (1..=5_000_000).contains(&slot_count)
         && (2..=20_000_000).contains(&item_count)
         && length as u64 == 40 + 4 * slot_count + 20 * item_count
@@ -65,10 +67,10 @@ pub struct Writer<'a> {
 impl<'a> Writer<'a> {
     /// Door check 4, on an index whose sizes fit.
     #[inline(always)]
-    pub fn open(index: &'a mut [u8], slot_count: u64, item_count: u64) -> Option<Writer<'a>> {
-        let header = Header::read(index, item_count)?;
+    pub fn open(index: &'a mut [u8], sizes: &Sizes) -> Option<Writer<'a>> {
+        let header = Header::read(index, sizes.item_count)?;
         let (header_bytes, rest) = index.split_at_mut(HEADER);
-        let (slots, items) = rest.split_at_mut(SLOT * slot_count as usize);
+        let (slots, items) = rest.split_at_mut(SLOT * sizes.slot_count as usize);
         Some(Writer {
             header_bytes,
             slots: slots.as_chunks_mut().0,
@@ -157,9 +159,8 @@ impl<'a> Writer<'a> {
 }
 
 /// What a query asks beside its key.
-struct Wish {
-    slot_count: u64,
-    item_count: u64,
+struct Wish<'a> {
+    sizes: &'a Sizes,
     first_time: u64,
     last_time: u64,
     wanted: u64,
@@ -172,8 +173,7 @@ struct Wish {
 pub unsafe extern "C" fn query(
     index: *const u8,
     index_len: usize,
-    slot_count: u64,
-    item_count: u64,
+    sizes: *const Sizes,
     topic: *const u8,
     topic_len: usize,
     key: *const u8,
@@ -183,13 +183,12 @@ pub unsafe extern "C" fn query(
     wanted: u64,
     out: *mut u64,
     out_len: usize,
-    counts: *mut u64,
+    found: *mut Found,
 ) -> u32 {
     answered(
         std::slice::from_raw_parts(index, index_len),
         &Wish {
-            slot_count,
-            item_count,
+            sizes: &*sizes,
             first_time,
             last_time,
             wanted,
@@ -198,7 +197,7 @@ pub unsafe extern "C" fn query(
         std::slice::from_raw_parts(key, key_len),
         |topic, key| hash::of_key(hash::of_topic(topic), key),
         std::slice::from_raw_parts_mut(out, out_len),
-        &mut *counts.cast::<[u64; 2]>(),
+        &mut *found,
     )
 }
 
@@ -209,8 +208,7 @@ pub unsafe extern "C" fn query(
 pub unsafe extern "C" fn query_bytewise(
     index: *const u8,
     index_len: usize,
-    slot_count: u64,
-    item_count: u64,
+    sizes: *const Sizes,
     topic: *const u8,
     topic_len: usize,
     key: *const u8,
@@ -220,13 +218,12 @@ pub unsafe extern "C" fn query_bytewise(
     wanted: u64,
     out: *mut u64,
     out_len: usize,
-    counts: *mut u64,
+    found: *mut Found,
 ) -> u32 {
     answered(
         std::slice::from_raw_parts(index, index_len),
         &Wish {
-            slot_count,
-            item_count,
+            sizes: &*sizes,
             first_time,
             last_time,
             wanted,
@@ -238,7 +235,7 @@ pub unsafe extern "C" fn query_bytewise(
             hash::magnitude(hash::continued_bytewise(prefix, key))
         },
         std::slice::from_raw_parts_mut(out, out_len),
-        &mut *counts.cast::<[u64; 2]>(),
+        &mut *found,
     )
 }
 
@@ -250,13 +247,13 @@ fn answered(
     key: &[u8],
     hash_of: impl Fn(&[u8], &[u8]) -> u32,
     out: &mut [u64],
-    counts: &mut [u64; 2],
+    found: &mut Found,
 ) -> u32 {
-    *counts = [0; 2];
-    if !sizes_fit(wish.slot_count, wish.item_count, index.len()) {
+    *found = Found::default();
+    if !sizes_fit(wish.sizes, index.len()) {
         return answer::BAD_SIZES;
     }
-    let Some(header) = Header::read(index, wish.item_count) else {
+    let Some(header) = Header::read(index, wish.sizes.item_count) else {
         return answer::BAD_HEADER;
     };
     let wanted = if wish.wanted == 0 { 32 } else { wish.wanted };
@@ -269,7 +266,7 @@ fn answered(
         return answer::MALFORMED;
     }
     let out = &mut out[..wanted as usize];
-    walk(index, header, wish, hash_of(topic, key), out, counts)
+    walk(index, header, wish, hash_of(topic, key), out, found)
 }
 
 #[inline(always)]
@@ -279,9 +276,9 @@ fn walk(
     wish: &Wish,
     hash: u32,
     out: &mut [u64],
-    counts: &mut [u64; 2],
+    told: &mut Found,
 ) -> u32 {
-    let (slots, items) = index[HEADER..].split_at(SLOT * wish.slot_count as usize);
+    let (slots, items) = index[HEADER..].split_at(SLOT * wish.sizes.slot_count as usize);
     let (slots, _) = slots.as_chunks::<SLOT>();
     let (items, _) = items.as_chunks::<ITEM>();
     let mut before = header.used;
@@ -313,6 +310,9 @@ fn walk(
             break answer::DONE;
         }
     };
-    *counts = [found as u64, read];
+    *told = Found {
+        positions: found as u64,
+        items_read: read,
+    };
     answer
 }

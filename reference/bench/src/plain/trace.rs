@@ -37,8 +37,12 @@ pub struct Followed {
 
 impl Trace {
     pub fn of(log: &Log, readable_end: u64, filed: &Filed) -> Trace {
-        let directory = Directory::read(&filed.directory, filed.queue_entries, filed.queues.len())
-            .expect("a directory in order");
+        let directory = Directory::read(
+            &filed.directory,
+            filed.sizes.queue_entries,
+            filed.queues.len(),
+        )
+        .expect("a directory in order");
         let mut trace = Trace {
             records: Vec::new(),
             slots: Vec::new(),
@@ -46,7 +50,7 @@ impl Trace {
         let mut counts = [0; 16];
         let mut position = 0;
         while position < readable_end {
-            let rest = log.segment_size - position % log.segment_size;
+            let rest = log.sizes.segment_size - position % log.sizes.segment_size;
             let seen = &log.bytes[position as usize..readable_end as usize];
             let record = match entry_at(seen, position, rest).expect("a sound log") {
                 Entry::Blank(rest) => {
@@ -63,14 +67,14 @@ impl Trace {
             let before = trace.slots.len();
             for key in [values.unique_key].into_iter().chain(parts(values.keys)) {
                 let hash = hash::of_key(prefix, key);
-                trace.slots.push(hash % filed.index.slot_count as u32);
+                trace.slots.push(hash % filed.sizes.slot_count as u32);
             }
             let total = record.own.len() as u64;
             trace.records.push(Places {
                 head: position,
                 tail: position + (HEAD + record.body_len) as u64,
                 end: position + total,
-                entry: (row * filed.queue_entries as usize + counts[row]) as u32,
+                entry: (row * filed.sizes.queue_entries as usize + counts[row]) as u32,
                 items: (trace.slots.len() - before) as u32,
             });
             counts[row] += 1;
@@ -89,7 +93,7 @@ impl Trace {
     ) -> u64 {
         let mut sum = 0;
         let (entries, _) = filed.queues.as_chunks_mut::<ENTRY>();
-        let slot_bytes = SLOT * filed.index.slot_count as usize;
+        let slot_bytes = SLOT * filed.sizes.slot_count as usize;
         let (slots, items) = filed.index.bytes[HEADER..].split_at_mut(slot_bytes);
         let (slots, _) = slots.as_chunks_mut::<SLOT>();
         let (items, _) = items.as_chunks_mut::<ITEM>();

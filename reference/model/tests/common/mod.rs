@@ -5,9 +5,9 @@ pub mod random;
 
 use model::commit_log;
 use model::consume_queue::{self, QueueRequest};
-use model::dispatch::{self, Call, Progress, State};
+use model::dispatch::{self, Call, State};
 use model::index_file::{self, Question};
-use model::interface;
+use model::interface::{self, Progress, Record, Sizes};
 use model::record::Message;
 use model::sizes::{IndexShape, LogShape};
 use model::{LogPosition, QueuePlace};
@@ -19,10 +19,13 @@ pub const TWO_40: u64 = 1_099_511_627_776;
 pub const TWO_48: u64 = 281_474_976_710_656;
 pub const TWO_56: u64 = 72_057_594_037_927_936;
 
-pub const NONE: u32 = 0;
-pub const PREPARED: u32 = 4;
-pub const COMMIT: u32 = 8;
-pub const ROLLBACK: u32 = 12;
+/// The largest number of 4 bytes.
+pub const MAX_4: u64 = 4_294_967_295;
+
+pub const NONE: u64 = 0;
+pub const PREPARED: u64 = 4;
+pub const COMMIT: u64 = 8;
+pub const ROLLBACK: u64 = 12;
 
 /// The readings' rec: topic `T`, no body, no properties, queue id 0, queue offset 0, system flag 0, store time 10,000.
 pub fn rec() -> Message<'static> {
@@ -33,9 +36,9 @@ pub fn rec() -> Message<'static> {
         queue_offset: 0,
         system_flag: NONE,
         born_time: 0,
-        born_host: 0,
+        born_host: &[0; 8],
         store_time: 10_000,
-        store_host: 0,
+        store_host: &[0; 8],
         reconsume_times: 0,
         prepared_offset: 0,
         body: b"",
@@ -57,23 +60,24 @@ pub fn keys(value: &str) -> Vec<u8> {
     [b"KEYS\x01", value.as_bytes()].concat()
 }
 
-/// A record's bytes at `p`, field after field, nothing judged.
+/// A record's bytes at `p`, field after field, nothing judged but that what it keeps in 4 bytes has no more.
 pub fn raw(message: &Message, p: u64) -> Vec<u8> {
     let total = 91 + message.body.len() + message.topic.len() + message.properties.len();
+    let four = |number: u64| u32::try_from(number).unwrap().to_be_bytes();
     let mut bytes = Vec::new();
     bytes.extend((total as u32).to_be_bytes());
     bytes.extend([0xDA, 0xA3, 0x20, 0xA7]);
-    bytes.extend(message.body_crc.to_be_bytes());
-    bytes.extend(message.queue_id.to_be_bytes());
-    bytes.extend(message.flag.to_be_bytes());
+    bytes.extend(four(message.body_crc));
+    bytes.extend(four(message.queue_id));
+    bytes.extend(four(message.flag));
     bytes.extend(message.queue_offset.to_be_bytes());
     bytes.extend(p.to_be_bytes());
-    bytes.extend(message.system_flag.to_be_bytes());
+    bytes.extend(four(message.system_flag));
     bytes.extend(message.born_time.to_be_bytes());
-    bytes.extend(message.born_host.to_be_bytes());
+    bytes.extend(message.born_host);
     bytes.extend(message.store_time.to_be_bytes());
-    bytes.extend(message.store_host.to_be_bytes());
-    bytes.extend(message.reconsume_times.to_be_bytes());
+    bytes.extend(message.store_host);
+    bytes.extend(four(message.reconsume_times));
     bytes.extend(message.prepared_offset.to_be_bytes());
     bytes.extend((message.body.len() as u32).to_be_bytes());
     bytes.extend(message.body);
@@ -126,14 +130,38 @@ pub fn append(log: &mut [u8], s: u64, b: u64, message: &Message, w: u64) -> (u32
     (appended.answer.number(), appended.write_position.0)
 }
 
-/// Record reading: the answer and the interface's 17 numbers.
-pub fn read(log: &[u8], s: u64, b: u64, p: u64, e: u64) -> (u32, [u64; 17]) {
-    let mut out = [7; 17];
-    let answer = interface::read_record(log, s, b, p, e, &mut out);
-    if answer != 0 {
-        assert_eq!(out, [0; 17], "0 for all else");
+/// S and B, for a call that looks at no other size: those are out of their limits.
+pub fn log_sizes(s: u64, b: u64) -> Sizes {
+    Sizes {
+        segment_size: s,
+        first_position: b,
+        queue_entries: MAX,
+        slot_count: MAX,
+        item_count: MAX,
     }
-    (answer, out)
+}
+
+/// K and N, for a call that looks at no other size: those are out of their limits.
+pub fn index_sizes(shape: IndexShape) -> Sizes {
+    Sizes {
+        slot_count: shape.slot_count,
+        item_count: shape.item_count,
+        ..log_sizes(MAX, MAX)
+    }
+}
+
+/// Record reading: the answer and what the interface says of the record.
+pub fn read(log: &[u8], s: u64, b: u64, p: u64, e: u64) -> (u32, Record) {
+    let mut record = Record {
+        kind: 7,
+        total: 7,
+        ..Record::default()
+    };
+    let answer = interface::read_record(log, &log_sizes(s, b), p, e, &mut record);
+    if answer != 0 {
+        assert_eq!(record, Record::default(), "0 for all else");
+    }
+    (answer, record)
 }
 
 /// Record reading's answer.
@@ -176,7 +204,7 @@ impl Store {
                 item_count: n,
             },
             state: State {
-                progress: Progress::from_numbers(&[0; 17]),
+                progress: Progress::default().into(),
                 queues: vec![0; rows * r as usize * 20],
                 index: vec![0; (40 + 4 * k + 20 * n) as usize],
             },
@@ -196,6 +224,16 @@ impl Store {
                 7 => w = appended.write_position,
                 other => panic!("append answers {other}"),
             }
+        }
+    }
+
+    pub fn sizes(&self) -> Sizes {
+        Sizes {
+            segment_size: self.log_shape.segment_size,
+            first_position: self.log_shape.first_position,
+            queue_entries: self.queue_entries,
+            slot_count: self.index_shape.slot_count,
+            item_count: self.index_shape.item_count,
         }
     }
 

@@ -7,11 +7,11 @@ use super::*;
 pub struct Sent {
     pub position: u64,
     pub topic: Vec<u8>,
-    pub queue_id: u32,
+    pub queue_id: u64,
     pub queue_offset: u64,
-    pub system_flag: u32,
+    pub system_flag: u64,
     pub store_time: u64,
-    pub other: [u64; 7],
+    pub other: Other,
     pub body: Vec<u8>,
     pub properties: Vec<u8>,
     /// The keys its items are made of, in order.
@@ -19,20 +19,46 @@ pub struct Sent {
     pub tags: Option<Vec<u8>>,
 }
 
+/// What no rule names.
+#[derive(Clone, Debug)]
+pub struct Other {
+    pub body_crc: u64,
+    pub flag: u64,
+    pub born_time: u64,
+    pub born_host: Vec<u8>,
+    pub store_host: Vec<u8>,
+    pub reconsume_times: u64,
+    pub prepared_offset: u64,
+}
+
+impl Other {
+    fn random(rng: &mut Rng) -> Other {
+        Other {
+            body_crc: rng.next() & MAX_4,
+            flag: rng.next() & MAX_4,
+            born_time: rng.next(),
+            born_host: rng.bytes(8),
+            store_host: rng.bytes(8),
+            reconsume_times: rng.next() & MAX_4,
+            prepared_offset: rng.next(),
+        }
+    }
+}
+
 impl Sent {
     pub fn message(&self) -> Message<'_> {
         Message {
-            body_crc: self.other[0] as u32,
+            body_crc: self.other.body_crc,
             queue_id: self.queue_id,
-            flag: self.other[1] as u32,
+            flag: self.other.flag,
             queue_offset: self.queue_offset,
             system_flag: self.system_flag,
-            born_time: self.other[2],
-            born_host: self.other[3],
+            born_time: self.other.born_time,
+            born_host: &self.other.born_host,
             store_time: self.store_time,
-            store_host: self.other[4],
-            reconsume_times: self.other[5] as u32,
-            prepared_offset: self.other[6],
+            store_host: &self.other.store_host,
+            reconsume_times: self.other.reconsume_times,
+            prepared_offset: self.other.prepared_offset,
             body: &self.body,
             topic: &self.topic,
             properties: &self.properties,
@@ -171,12 +197,12 @@ pub fn random_store(rng: &mut Rng, plan: Plan) -> (Store, Vec<Sent>) {
         let mut message = Sent {
             position: w,
             topic: topic.to_vec(),
-            queue_id,
+            queue_id: u64::from(queue_id),
             queue_offset: counts[row],
             system_flag: rng.pick(&[NONE, NONE, PREPARED, COMMIT, ROLLBACK])
                 + rng.pick(&[0, 1, 64, 0x8000_0000]),
             store_time: time,
-            other: [(); 7].map(|_| rng.next()),
+            other: Other::random(rng),
             body: rng.bytes(body_length),
             properties,
             keys,
