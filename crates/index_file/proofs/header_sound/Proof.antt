@@ -6,7 +6,9 @@ use Rattle.index_file.proofs.header_sound.Tie as tie
 
 returns : tie.Need-returns
 returns c =
-    header-judged _ _ (c .before .before .before .before .before .used-count .ensures) (c .before .before .before .before .get-u32 .ensures) (c .before .before .before .get-u64 .ensures) (c .before .before .get-u642 .ensures) (c .before .get-u643 .ensures) (c .get-u644 .ensures)
+    let l = c .before .before in
+    let f = l .before in
+    header-judged _ _ (f .before .before .used-count .ensures) (f .before .get-u32 .ensures) (f .get-u64 .ensures) (l .get-u642 .ensures) (c .before .get-u643 .ensures) (c .get-u644 .ensures)
 
 pub header-sound-spec : {M : Type 1} → statement M
 header-sound-spec =

@@ -20,8 +20,9 @@ returns-4 : tie.Need-returns-4
 returns-4 c =
     let f = c .before in
     let a = f .before .before in
-    answer-fine _ _ _ _ _ (a .before .before .if1 .left) (a .before .is-ahead .ensures) (a .if2 .left) (f .before .is-full .ensures) (f .if3 .left)
-    (sym (a .before .before .before .before .before .pre .2 (c .if4 .taken))) refl
+    let e = a .before .before in
+    answer-fine _ _ _ _ _ (e .if1 .left) (a .before .is-ahead .ensures) (a .if2 .left) (f .before .is-full .ensures) (f .if3 .left)
+    (sym (e .before .before .before .pre .2 (c .if4 .taken))) refl
 
 returns-5 : tie.Need-returns-5
 returns-5 c =

@@ -6,8 +6,10 @@ use Rattle.index_file.proofs.put_entry.Tie as tie
 
 returns : tie.Need-returns
 returns c =
-    let d = c .before .before .before .before .before .before in
-    entry-steps _ _ _ _ _ _ (d .before .before .before .before .before .slot-place .ensures .place) (d .before .before .before .get-u32 .ensures) (d .before .item-place .ensures) (d .write-item .ensures) (c .before .before .put-u32 .ensures)
+    let s = c .before .before in
+    let w = s .before .before .before .before in
+    let r = w .before .before .before in
+    entry-steps _ _ _ _ _ _ (r .before .before .slot-place .ensures .place) (r .get-u32 .ensures) (w .before .item-place .ensures) (w .write-item .ensures) (s .put-u32 .ensures)
 
 pub put-entry-spec : {M : Type 1} → statement M
 put-entry-spec =

@@ -17,7 +17,10 @@ loop-holds : tie.Need-loop-holds Inv-loop μ-loop
 loop-holds c = judges-start _ _ _
 
 loop-again : tie.Need-loop-again Inv-loop μ-loop
-loop-again c = judges-on _ _ _ _ _ (c .before .before .before .before .loop .inv) (c .before .before .before .loop-test .taken) (slot-judged _ _ _ (c .before .before .before .before .before .used-count .ensures) (c .before .slot-place .ensures .place) (c .get-u32 .ensures))
+loop-again c =
+    let t = c .before .before .before in
+    let l = t .before in
+    judges-on _ _ _ _ _ (l .loop .inv) (t .loop-test .taken) (slot-judged _ _ _ (l .before .used-count .ensures) (c .before .slot-place .ensures .place) (c .get-u32 .ensures))
 
 returns : tie.Need-returns Inv-loop μ-loop
 returns c = judges-end _ _ _ _ _ (c .before .loop .inv) (c .loop-test .left)

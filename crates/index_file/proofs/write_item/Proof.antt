@@ -8,7 +8,11 @@ use Rattle.index_file.proofs.write_item.Tie as tie
 returns : tie.Need-returns
 unfolding itemBytes writes
 returns c =
-    rw (c .before .before .put-u323 .ensures, c .before .before .before .before .before .before .put-u322 .ensures, c .before .before .before .before .before .before .before .before .before .before .put-u64 .ensures, c .before .before .before .before .before .before .before .before .before .before .before .before .before .before .put-u32 .ensures) (writes-all _ _ _ _)
+    let e = c .before .before in
+    let s = e .before .before .before .before in
+    let p = s .before .before .before .before in
+    let h = p .before .before .before .before in
+    rw (e .put-u323 .ensures, s .put-u322 .ensures, p .put-u64 .ensures, h .put-u32 .ensures) (writes-all _ _ _ _)
 
 pub write-item-spec : {M : Type 1} → statement M
 write-item-spec =

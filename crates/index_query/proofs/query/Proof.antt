@@ -5,6 +5,16 @@ use borrow.Author.Needs.{needs}
 use Rattle.index_query.proofs.query.Statement.{statement}
 use Rattle.index_query.proofs.query.Tie as tie
 
+-- ---- places
+
+abbrev sized : tie.After-header-sound → tie.After-sizes-ok
+sized c = c .before .before
+
+abbrev fits : tie.After-sizes-ok → tie.After-query-ok
+fits c = c .before .before
+
+-- ---- needs
+
 returns : tie.Need-returns
 returns c = refused-sizes _ _ _ _ _ _ _ _ _ (c .before .before .sizes-ok .ensures) (c .before .if1 .taken) (c .ended .ensures)
 
@@ -13,26 +23,37 @@ header-sound-requires c κs = sizes-long _ _ _ (c .before .sizes-ok .ensures) (c
 
 returns-2 : tie.Need-returns-2
 returns-2 c =
-    refused-header _ _ _ _ _ _ _ _ _ (c .before .before .before .before .sizes-ok .ensures) (c .before .before .before .if1 .left) (c .before .before .header-sound .ensures) (c .before .if2 .taken) (c .ended2 .ensures)
+    let h = c .before .before in
+    refused-header _ _ _ _ _ _ _ _ _ (sized h .sizes-ok .ensures) (h .before .if1 .left) (h .header-sound .ensures) (c .before .if2 .taken) (c .ended2 .ensures)
 
 returns-3 : tie.Need-returns-3
 returns-3 c =
-    refused-query _ _ _ _ _ _ _ _ _ (c .before .before .before .before .before .sizes-ok .ensures) (c .before .before .before .before .if1 .left) (c .before .before .before .header-sound .ensures) (c .before .before .if2 .left)
-    (c .before .before .before .before .before .before .before .before .wanted-of .ensures) (c .before .before .before .before .before .before .before .query-ok .ensures) (c .before .if3 .taken) (c .ended3 .ensures)
+    let e = c .before .before in
+    let h = e .before in
+    let s = sized h in
+    let q = fits s in
+    refused-query _ _ _ _ _ _ _ _ _ (s .sizes-ok .ensures) (h .before .if1 .left) (h .header-sound .ensures) (e .if2 .left) (q .before .wanted-of .ensures) (q .query-ok .ensures) (c .before .if3 .taken) (c .ended3 .ensures)
 
 criteria-for-requires : tie.Need-criteria-for-requires
-criteria-for-requires c κs = sizes-long _ _ _ (c .before .before .before .before .sizes-ok .ensures) (c .before .before .before .if1 .left)
+criteria-for-requires c κs = let h = c .before .before in sizes-long _ _ _ (sized h .sizes-ok .ensures) (h .before .if1 .left)
 
 walk-chain-requires : tie.Need-walk-chain-requires
 walk-chain-requires c κs =
-    accepted _ _ _ _ _ _ _ _ _ _ (c .before .before .before .before .before .before .sizes-ok .ensures) (c .before .before .before .before .before .if1 .left) (c .before .before .before .before .header-sound .ensures) (c .before .before .before .if2 .left)
-    (c .before .before .before .before .before .before .before .before .query-ok .ensures) (c .before .before .if3 .left) (c .before .criteria-for .ensures)
+    let a = c .before .before in
+    let h = a .before .before in
+    let s = sized h in
+    accepted _ _ _ _ _ _ _ _ _ _ (s .sizes-ok .ensures) (h .before .if1 .left) (h .header-sound .ensures) (a .before .if2 .left) (fits s .query-ok .ensures) (a .if3 .left) (c .before .criteria-for .ensures)
 
 returns-4 : tie.Need-returns-4
 returns-4 c =
-    let d = c .before .before .before .before .before .before .before in
-    asked _ _ _ _ _ _ _ _ _ (d .before .before .sizes-ok .ensures) (d .before .if1 .left) (d .header-sound .ensures) (c .before .before .before .before .before .before .if2 .left) (d .before .before .before .before .before .wanted-of .ensures)
-    (d .before .before .before .before .query-ok .ensures) (c .before .before .before .before .before .if3 .left) (d .before .before .before .hash-if .ensures) (c .before .before .before .before .criteria-for .ensures) (c .before .before .walk-chain .ensures)
+    let w = c .before .before in
+    let d = w .before .before in
+    let e = d .before .before in
+    let h = e .before in
+    let s = sized h in
+    let q = fits s in
+    asked _ _ _ _ _ _ _ _ _ (s .sizes-ok .ensures) (h .before .if1 .left) (h .header-sound .ensures) (e .if2 .left) (q .before .wanted-of .ensures) (q .query-ok .ensures) (d .before .if3 .left)
+    (s .before .hash-if .ensures) (d .criteria-for .ensures) (w .walk-chain .ensures)
 
 pub query-spec : {M : Type 1} → statement M
 query-spec =

@@ -15,14 +15,21 @@ Inv-loop start s h₀ i₀ h i = (i ≤ length s) × (h ≡ hashFrom start (unit
 abbrev μ-loop : tie.MeasureT-loop
 μ-loop start s h₀ i₀ h i = length s - i
 
+-- ---- places
+
+abbrev start : tie.At-loop Inv-loop μ-loop → tie.Start Inv-loop μ-loop
+start c = c .before .before
+
+-- ---- needs
+
 loop-holds : tie.Need-loop-holds Inv-loop μ-loop
 loop-holds c = (omega arith, turn0 _ (c .before .args .s .now))
 
 loop-again : tie.Need-loop-again Inv-loop μ-loop
-loop-again c = (omega arith, turn8 _ (c .before .before .before .before .args .s .now) _ _ _ (c .before .before .loop .inv .1) (c .step8 .ensures))
+loop-again c = (omega arith, turn8 _ (start (c .before .before) .args .s .now) _ _ _ (c .before .before .loop .inv .1) (c .step8 .ensures))
 
 returns : tie.Need-returns Inv-loop μ-loop
-returns c = hash-parts _ _ _ _ (c .before .before .before .before .before .args .s .now) (c .before .before .before .loop .inv .1) (c .hash-rest .ensures)
+returns c = let t = c .before .before .before in hash-parts _ _ _ _ (start t .args .s .now) (t .loop .inv .1) (c .hash-rest .ensures)
 
 pub hash-from-spec : {M : Type 1} → statement M
 hash-from-spec =

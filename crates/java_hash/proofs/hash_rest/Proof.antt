@@ -15,14 +15,24 @@ Inv-loop start s h₀ i₀ h i = (i ≤ length s) × (h ≡ hashFrom start (unit
 abbrev μ-loop : tie.MeasureT-loop
 μ-loop start s h₀ i₀ h i = length s - i
 
+-- ---- places
+
+abbrev start : tie.At-loop Inv-loop μ-loop → tie.Start Inv-loop μ-loop
+start c = c .before .before
+
+abbrev turn : tie.After-step Inv-loop μ-loop → tie.At-loop Inv-loop μ-loop
+turn c = c .before .before .before .before
+
+-- ---- needs
+
 loop-holds : tie.Need-loop-holds Inv-loop μ-loop
 loop-holds c = (omega arith, turn0 _ (c .before .args .s .now))
 
 loop-again : tie.Need-loop-again Inv-loop μ-loop
-loop-again c = (omega arith, turn1 _ (c .before .before .before .before .before .before .args .s .now) _ _ _ _ (omega arith) (c .before .before .before .before .loop .inv .1) (c .before .unit .ensures .0) (c .step .ensures))
+loop-again c = (omega arith, turn1 _ (start (turn c) .args .s .now) _ _ _ _ (omega arith) (turn c .loop .inv .1) (c .before .unit .ensures .0) (c .step .ensures))
 
 returns : tie.Need-returns Inv-loop μ-loop
-returns c = turned _ (c .before .before .before .args .s .now) (c .before .loop .i) _ (omega arith) (c .before .loop .inv .1)
+returns c = turned _ (start (c .before) .args .s .now) (c .before .loop .i) _ (omega arith) (c .before .loop .inv .1)
 
 pub hash-rest-spec : {M : Type 1} → statement M
 hash-rest-spec =

@@ -7,8 +7,9 @@ use Rattle.java_hash.proofs.octet.Tie as tie
 
 returns : tie.Need-returns
 returns c =
-    halves (c .before .before .before .before .before .args .s .now) 4 4 (c .before .before .before .before .before .args .i) (omega arith)
-    (c .before .before .before .quad .ensures) (c .before .before .mul31-4 .ensures) (c .before .quad2 .ensures) (c .wrapping-add-u32 .ensures)
+    let p = c .before .before .before in
+    let a = p .before .before .args in
+    halves (a .s .now) 4 4 (a .i) (omega arith) (p .quad .ensures) (c .before .before .mul31-4 .ensures) (c .before .quad2 .ensures) (c .wrapping-add-u32 .ensures)
 
 pub octet-spec : {M : Type 1} → statement M
 octet-spec =

@@ -7,8 +7,9 @@ use Rattle.java_hash.proofs.quad.Tie as tie
 
 returns : tie.Need-returns
 returns c =
-    halves (c .before .before .before .before .before .args .s .now) 2 2 (c .before .before .before .before .before .args .i) (omega arith)
-    (c .before .before .before .pair .ensures) (c .before .before .mul31-2 .ensures) (c .before .pair2 .ensures) (c .wrapping-add-u32 .ensures)
+    let p = c .before .before .before in
+    let a = p .before .before .args in
+    halves (a .s .now) 2 2 (a .i) (omega arith) (p .pair .ensures) (c .before .before .mul31-2 .ensures) (c .before .pair2 .ensures) (c .wrapping-add-u32 .ensures)
 
 pub quad-spec : {M : Type 1} → statement M
 quad-spec =

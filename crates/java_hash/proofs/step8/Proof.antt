@@ -7,8 +7,9 @@ use Rattle.java_hash.proofs.step8.Tie as tie
 
 returns : tie.Need-returns
 returns c =
-    onward (c .before .before .before .before .args .s .now) 8 (c .before .before .before .before .args .i) (omega arith) (omega arith)
-    (c .before .before .mul31-8 .ensures) (c .before .octet .ensures) (c .wrapping-add-u32 .ensures)
+    let m = c .before .before in
+    let a = m .before .before .args in
+    onward (a .s .now) 8 (a .i) (omega arith) (omega arith) (m .mul31-8 .ensures) (c .before .octet .ensures) (c .wrapping-add-u32 .ensures)
 
 pub step8-spec : {M : Type 1} → statement M
 step8-spec =

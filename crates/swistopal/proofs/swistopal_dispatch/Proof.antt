@@ -9,7 +9,8 @@ returns : tie.Need-returns
 unfolding progressIn
 returns c =
     let p = c .before in
-    let d = p .before .before .before .before .before .before .before in
+    let f = p .before .before .before .before in
+    let d = f .before .before .before in
     let z = d .before .before .before .before in
     dispatched _ _ _ _ _ _ _ _ _ _ _ _ _ _ (z .sizes-in .ensures) (z .before .counts-in .ensures) (d .dispatch .ensures) (p .put-progress .ensures) (c .number .ensures)
 
