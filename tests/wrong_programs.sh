@@ -11,7 +11,7 @@ exec python3 - <<'PYTHON'
 import glob, os, re, sys
 
 # What a log says where a proof file no longer fits the code: that shows nothing of the program.
-STALE = ["that can be named from here", "has no field", "not in scope", "components"]
+STALE = ["that can be named from here", "has no field", "not in scope", "components", "error: `Inv-", "error: `μ-"]
 faults = []
 names = {}
 edits = sorted(glob.glob("crates/*/must-fail/*.edit"))

@@ -1,22 +1,27 @@
 -- Bytes made of rows: the first row and the rest. Assumes nothing.
-use Prim.Native.Nat.{ℕ, zero, suc, _+_, _≤_, _<_}
+use Prim.Native.Nat.{ℕ, zero, suc, _+_, _-_, _≤_, _<_}
 use mathlib.Core.Path.{_≡_, refl, sym, ap, _∙_}
 use mathlib.Core.Bool.{true}
 use mathlib.Core.List.{List, [], _∷_}
 use mathlib.Core.Option.{Option, none, some}
 use native.Mathlib.Omega.{arith}
+use native.Mathlib.Nat.{zero-add, suc-add}
 use lib.ListN.{length, drop, length-drop}
 use lib.Seq.{drop-drop}
 use borrow.Author.Tests.{ne-eqb}
-use Rattle.codec.specs.Bytes.{little, field}
 use Rattle.codec.specs.Choice.{pick}
 use Rattle.directory.specs.Directory.{Queue, rowLength, rowQueue, rowOk, before, rowsWithin}
-use Rattle.directory.specs.Inner.{madeOf, rowsOf, InRows, Next}
+use Rattle.directory.specs.Inner.{madeOf, rowsOf, InRows, Sized}
 use Rattle.codec.proofs.Choices.{held}
-use Rattle.directory.proofs.Reading.{begun, length-at}
+use Rattle.directory.proofs.Reading.{begun}
 
 pub nothing : {A : Type 0} {x : A} → none ≡ some x → ⊥
 nothing e = let z : _≡_ {A = ℕ} 0 1 = cc in omega arith
+
+pub rows-empty : (n : ℕ) → rowsWithin n [] ≡ some []
+unfolding rowsWithin pick
+rows-empty zero = refl
+rows-empty (suc n) = refl
 
 -- bytes that are not empty
 module _ (bytes : List ℕ) (more : 0 < length bytes) where
@@ -62,6 +67,13 @@ rows-more (suc n) (b ∷ l) qs e =
     rows-first (b ∷ l) (omega arith) (suc n)
     ∙ rw (s .ok, rows-more n (drop (rowLength (b ∷ l)) (b ∷ l)) (s .rest) (s .made)) (ap some (sym (s .all)))
 
+pub rows-up : (m n : ℕ) (bytes : List ℕ) (qs : List Queue) → n ≤ m → rowsWithin n bytes ≡ some qs → rowsWithin m bytes ≡ some qs
+rows-up m n bytes qs h e = let k : m - n + n ≡ m = omega arith in rw k at (go (m - n))
+  where
+    go : (d : ℕ) → rowsWithin (d + n) bytes ≡ some qs
+    go zero = rw zero-add e
+    go (suc d) = rw suc-add (rows-more (d + n) bytes qs (go d))
+
 pub rows-of : (bytes : List ℕ) (qs : List Queue) → rowsWithin 16 bytes ≡ some qs → rowsOf bytes ≡ qs
 unfolding rowsOf madeOf
 rows-of bytes qs e = rw e
@@ -69,26 +81,24 @@ rows-of bytes qs e = rw e
 pub in-rows : (bytes : List ℕ) (qs : List Queue) → rowsWithin 16 bytes ≡ some qs → InRows bytes
 in-rows bytes qs e = e ∙ ap some (sym (rows-of bytes qs e))
 
--- the row at a place within
+-- the row at a place within, and the rows after it
+pub record Next (bytes : List ℕ) (at size : ℕ) : Type 0 where
+  pub rest : InRows (drop (at + size) bytes)
+  pub all : rowsOf (drop at bytes) ≡ rowQueue (drop at bytes) ∷ rowsOf (drop (at + size) bytes)
+
 module _ (l : List ℕ) (at : ℕ) (inside : at < length l) (made : InRows (drop at l)) where
   first : Split 15 (drop at l) (rowsOf (drop at l))
   first = split 15 (drop at l) (rowsOf (drop at l)) (rw length-drop (omega arith)) made
 
-  pub head-within : at + 8 ≤ length l
-  head-within = let h = rw length-drop at (begun (drop at l) (first .ok) .head) in omega arith
-
-  pub next : {size : ℕ} → size ≡ field little 2 at l → Next l at size
-  next {size} e =
-      let b = drop at l in
-      let g = begun b (first .ok) in
-      let o = length-at l at e in
+  pub row-here : Sized l at (rowLength (drop at l))
+  row-here =
+      let g = begun (drop at l) (first .ok) in
       let n = rw (length-drop at l) at (g .fits) in
+      record { low = g .low; fits = omega arith; own = refl }
+
+  pub next : {size : ℕ} → size ≡ rowLength (drop at l) → Next l at size
+  next {size} o =
+      let b = drop at l in
       let m : rowsWithin 16 (drop (at + size) l) ≡ some (first .rest) =
       rw (← drop-drop size at l, o) (rows-more 15 (drop (rowLength b) b) (first .rest) (first .made)) in
-      record {
-        low = rw o (g .low);
-        fits = rw o (omega arith);
-        own = o;
-        rest = in-rows (drop (at + size) l) (first .rest) m;
-        all = first .all ∙ rw (rows-of (drop (at + size) l) (first .rest) m);
-      }
+      record { rest = in-rows (drop (at + size) l) (first .rest) m; all = first .all ∙ rw (rows-of (drop (at + size) l) (first .rest) m) }

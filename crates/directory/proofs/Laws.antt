@@ -53,11 +53,11 @@ listing-refused d e = go (queues d) e
 
 -- ---- which row
 
-names-own : (q : Queue) → names (q .topic) (q .id) q ≡ true
+pub names-own : (q : Queue) → names (q .topic) (q .id) q ≡ true
 unfolding names
 names-own q = rw (eq-eqb (q .id) (q .id) refl, same-refl (q .topic))
 
-named : (topic : List ℕ) (id : ℕ) (q : Queue) → names topic id q ≡ true → (q .topic ≡ topic) × (q .id ≡ id)
+pub named : (topic : List ℕ) (id : ℕ) (q : Queue) → names topic id q ≡ true → (q .topic ≡ topic) × (q .id ≡ id)
 unfolding names
 named topic id q e =
     let b = both (eqb (q .id) id) (same (q .topic) topic) e in
@@ -66,13 +66,13 @@ named topic id q e =
 not-unlisted : {i : ℕ} → Unlisted ≡ Row i → ⊥
 not-unlisted e = let z : _≡_ {A = ℕ} 0 1 = cc in omega arith
 
-unlisted : (r : Located) → not (listed r) ≡ true → r ≡ Unlisted
+pub unlisted : (r : Located) → not (listed r) ≡ true → r ≡ Unlisted
 unfolding listed
 unlisted Unlisted e = refl
 unlisted (Row i) e = cc
 
 module _ (topic : List ℕ) (id : ℕ) where
-  from-found : (n : ℕ) (qs : List Queue) (i : ℕ) → rowFrom n topic id qs ≡ Row i → (n ≤ i) × Fits topic id qs (i - n)
+  pub from-found : (n : ℕ) (qs : List Queue) (i : ℕ) → rowFrom n topic id qs ≡ Row i → (n ≤ i) × Fits topic id qs (i - n)
   unfolding rowFrom pick
   from-found n [] i e = absurd (not-unlisted e)
   from-found n (q ∷ qs) i e = go (names topic id q) refl e (from-found (n + 1) qs i)
@@ -90,7 +90,7 @@ module _ (topic : List ℕ) (id : ℕ) where
           let z : i - n ≡ suc (i - (n + 1)) = omega arith in
           (omega arith, rw z (record { within = omega arith; named = h .1 .named }))
 
-  from-none : (n : ℕ) (qs : List Queue) → rowFrom n topic id qs ≡ Unlisted → (i : ℕ) → Fits topic id qs i → ⊥
+  pub from-none : (n : ℕ) (qs : List Queue) → rowFrom n topic id qs ≡ Unlisted → (i : ℕ) → Fits topic id qs i → ⊥
   unfolding rowFrom pick
   from-none n [] e i g = omega arith
   from-none n (q ∷ qs) e i g = go (names topic id q) refl e (from-none (n + 1) qs) i g
@@ -101,7 +101,7 @@ module _ (topic : List ℕ) (id : ℕ) where
       go false f e ih zero g = let z : _≡_ {A = ℕ} 0 1 = cc in omega arith
       go false f e ih (suc i) g = let h = g .within in ih e i (record { within = omega arith; named = g .named })
 
-  later : {q : Queue} {qs : List Queue} {i : ℕ} → Fits topic id (q ∷ qs) (suc i) → Fits topic id qs i
+  pub later : {q : Queue} {qs : List Queue} {i : ℕ} → Fits topic id (q ∷ qs) (suc i) → Fits topic id qs i
   later g = let h = g .within in record { within = omega arith; named = g .named }
 
   -- where a row fits, none after it does
@@ -112,7 +112,7 @@ module _ (topic : List ℕ) (id : ℕ) where
       let n = named topic id q f in
       from-none 0 qs (unlisted (rowFrom 0 topic id qs) (rw (n .0, n .1) at k))
 
-  once : (qs : List Queue) → distinct qs ≡ true → (i j : ℕ) → Fits topic id qs i → Fits topic id qs j → i ≡ j
+  pub once : (qs : List Queue) → distinct qs ≡ true → (i j : ℕ) → Fits topic id qs i → Fits topic id qs j → i ≡ j
   unfolding distinct
   once [] e i j g h = omega arith
   once (q ∷ qs) e zero zero g h = refl

@@ -1,5 +1,9 @@
 pub mod Reading
 pub mod Chain
+pub mod Fronts
 pub mod Walks
 pub mod Judged
 pub mod Laws
+pub mod Apart
+pub mod Meeting
+pub mod Judging

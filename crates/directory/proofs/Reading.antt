@@ -14,13 +14,14 @@ use Rattle.codec.proofs.Parts.{part-drop, length-part}
 use Rattle.codec.proofs.Fields.{field-drop}
 use Rattle.codec.proofs.Equal.{same-lengths}
 use Rattle.directory.specs.Directory.{rowLength, rowKind, rowId, rowQueue, kindOk, rowOk, names}
-use Rattle.directory.specs.Inner.{rowSize, Next}
+use Rattle.directory.specs.Inner.{rowSize, Sized}
 use Rattle.codec.proofs.Choices.{both}
 
 -- what a row that is in order shows
 pub record Begun (bytes : List ℕ) : Type 0 where
   pub head : 8 ≤ length bytes
   pub low : 9 ≤ rowLength bytes
+  pub high : rowLength bytes ≤ 135
   pub fits : rowLength bytes ≤ length bytes
 
 pub begun : (bytes : List ℕ) → rowOk bytes ≡ true → Begun bytes
@@ -31,16 +32,21 @@ begun bytes e =
     let a = both (leb 8 n && (leb 9 l && leb l 135 && leb l n)) _ e .0 in
     let b = both (leb 8 n) _ a in
     let c = both (leb 9 l && leb l 135) (leb l n) (b .1) in
+    let d = both (leb 9 l) (leb l 135) (c .0) in
     record {
       head = leb-true 8 n (b .0);
-      low = leb-true 9 l (both (leb 9 l) (leb l 135) (c .0) .0);
+      low = leb-true 9 l (d .0);
+      high = leb-true l 135 (d .1);
       fits = leb-true l n (c .1);
     }
 
 module _ (l : List ℕ) (at : ℕ) where
-  pub length-at : {size : ℕ} → size ≡ field little 2 at l → size ≡ rowLength (drop at l)
+  length-at : {size : ℕ} → size ≡ field little 2 at l → size ≡ rowLength (drop at l)
   unfolding rowLength
   length-at e = e ∙ sym (rw add-zero at (field-drop little 2 at 0 l))
+
+  pub sized-at : Sized l at (rowLength (drop at l)) → {size : ℕ} → size ≡ field little 2 at l → Sized l at size
+  sized-at z e = rw (length-at e) z
 
   pub id-at : {id : ℕ} → id ≡ field little 4 (at + 4) l → id ≡ rowId (drop at l)
   unfolding rowId
@@ -68,7 +74,7 @@ module _ (l : List ℕ) (at : ℕ) where
     unfolding names rowQueue
     names-other e d = rw (← id-at e, ne-eqb _ id d)
 
-    module _ (size : ℕ) (n : Next l at size) where
+    module _ (size : ℕ) (n : Sized l at size) where
       pub names-longer : (size - 8 ≡ length topic → ⊥) → false ≡ names topic id (rowQueue (drop at l))
       unfolding names rowQueue
       names-longer d =

@@ -2,8 +2,8 @@
 ghost use mathlib.Core.Path.{_≡_};
 ghost use Prim.Native.Nat.{_≤_, _<_};
 ghost use lib.ListN.{length, drop};
-ghost use Rattle.directory.specs.Directory.{rowQueue, names, rowsWithin, rowFrom, distinct, queues, rowCount, rowOf};
-ghost use Rattle.directory.specs.Inner.{rowSize, rowsOf, InRows, Next, made};
+ghost use Rattle.directory.specs.Directory.{rowLength, rowQueue, names, rowFrom, queues, rowCount, rowOf};
+ghost use Rattle.directory.specs.Inner.{rowSize, rowsOf, InRows, Sized, bucketOf};
 
 // The number of rows, 1 to 16, of a directory that is in order.
 pub enum RowCount {
@@ -45,37 +45,17 @@ fn row_size(dir: &[u8], at: usize) -> usize
     0
 }
 
-// The number of rows that fill the buffer exactly, none judged against another.
-fn count_rows(dir: &[u8]) -> RowCount
-    ensures { λ r. ⌜ r ≡ made (rowsWithin 16 (now (dir .entry))) ⌝ }
-{
-    let mut at: usize = 0;
-    let mut rows: usize = 0;
-    while at < dir.len() {
-        if rows == ROWS {
-            return RowCount::Refused;
-        }
-        let size = row_size(dir, at);
-        if size == 0 {
-            return RowCount::Refused;
-        }
-        at += size;
-        rows += 1;
-    }
-    RowCount::Rows(rows)
-}
-
-// The length of the row at `at` in a buffer made of rows.
+// The length of the row that stands at `at`.
 fn size_at(dir: &[u8], at: usize) -> usize
-    requires { ⌜ (at < length (now dir)) × InRows (drop at (now dir)) ⌝ }
-    ensures { λ r. ⌜ Next (now (dir .entry)) at r ⌝ }
+    requires { ⌜ Sized (now dir) at (rowLength (drop at (now dir))) ⌝ }
+    ensures { λ r. ⌜ Sized (now (dir .entry)) at r ⌝ }
 {
     codec::get_le(dir, at, 2) as usize
 }
 
 // Whether the row at `at`, of this size, has this topic and id.
 fn is_queue(dir: &[u8], at: usize, size: usize, topic: &[u8], id: u32) -> bool
-    requires { ⌜ Next (now dir) at size ⌝ }
+    requires { ⌜ Sized (now dir) at size ⌝ }
     ensures { λ r. ⌜ r ≡ names (now (topic .entry)) id (rowQueue (drop at (now (dir .entry)))) ⌝ }
 {
     if codec::get_u32_le(dir, at + 4) != id {
@@ -87,12 +67,12 @@ fn is_queue(dir: &[u8], at: usize, size: usize, topic: &[u8], id: u32) -> bool
     codec::same_at(dir, at + TOPIC, topic)
 }
 
-// The first row from `at` on with this topic and id; the row at `at` has the number 0.
-fn row_from(dir: &[u8], at: usize, topic: &[u8], id: u32) -> Located
-    requires { ⌜ (at ≤ length (now dir)) × InRows (drop at (now dir)) ⌝ }
-    ensures { λ r. ⌜ r ≡ rowFrom 0 (now (topic .entry)) id (rowsOf (drop at (now (dir .entry)))) ⌝ }
+// The first row with this topic and id.
+fn row_from(dir: &[u8], topic: &[u8], id: u32) -> Located
+    requires { ⌜ InRows (now dir) ⌝ }
+    ensures { λ r. ⌜ r ≡ rowFrom 0 (now (topic .entry)) id (rowsOf (now (dir .entry))) ⌝ }
 {
-    let mut place = at;
+    let mut place: usize = 0;
     let mut number: usize = 0;
     while place < dir.len() {
         let size = size_at(dir, place);
@@ -105,37 +85,44 @@ fn row_from(dir: &[u8], at: usize, topic: &[u8], id: u32) -> Located
     Located::Unlisted
 }
 
-// Whether no two rows have the same topic and id.
-fn rows_distinct(dir: &[u8]) -> bool
-    requires { ⌜ InRows (now dir) ⌝ }
-    ensures { λ r. ⌜ r ≡ distinct (rowsOf (now (dir .entry))) ⌝ }
+// One of 16 places for a row, by the size of its topic and its id.
+fn bucket(size: usize, id: u32) -> usize
+    ensures { λ r. ⌜ (r ≡ bucketOf size id) × (r < 16) ⌝ }
 {
-    let mut at: usize = 0;
-    while at < dir.len() {
-        let next = at + size_at(dir, at);
-        let from = at + TOPIC;
-        let id = codec::get_u32_le(dir, at + 4);
-        let again = row_from(dir, next, &dir[from..next], id);
-        if let Located::Row(_) = again {
-            return false;
-        }
-        at = next;
-    }
-    true
+    (4 * (size % 4) + (id as usize)) % 16
 }
 
 // Whether the directory is in order, and how many rows it has.
 pub fn validate(dir: &[u8]) -> RowCount
     ensures { λ r. ⌜ r ≡ rowCount (now (dir .entry)) ⌝ }
 {
-    let counted = count_rows(dir);
-    let RowCount::Rows(rows) = counted else {
-        return RowCount::Refused;
-    };
-    if rows == 0 {
-        return RowCount::Refused;
+    let mut met = [0u8; 16];
+    let mut at: usize = 0;
+    let mut rows: usize = 0;
+    while at < dir.len() {
+        if rows == ROWS {
+            return RowCount::Refused;
+        }
+        let size = row_size(dir, at);
+        if size == 0 {
+            return RowCount::Refused;
+        }
+        let next = at + size;
+        let from = at + TOPIC;
+        let id = codec::get_u32_le(dir, at + 4);
+        let k = bucket(size - TOPIC, id);
+        // A row of the same topic and id would have been met there.
+        if met[k] != 0 {
+            let again = row_from(&dir[..at], &dir[from..next], id);
+            if let Located::Row(_) = again {
+                return RowCount::Refused;
+            }
+        }
+        met[k] = 1;
+        at = next;
+        rows += 1;
     }
-    if !rows_distinct(dir) {
+    if rows == 0 {
         return RowCount::Refused;
     }
     RowCount::Rows(rows)
@@ -146,5 +133,5 @@ pub fn lookup(dir: &[u8], topic: &[u8], id: u32) -> Located
     requires { ⌜ 0 < length (queues (now dir)) ⌝ }
     ensures { λ r. ⌜ r ≡ rowOf (now (topic .entry)) id (now (dir .entry)) ⌝ }
 {
-    row_from(dir, 0, topic, id)
+    row_from(dir, topic, id)
 }

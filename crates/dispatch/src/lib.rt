@@ -12,6 +12,7 @@ ghost use Rattle.dispatch.specs.Dispatch.{sizesFit, progressBad, dispatc
 ghost use Rattle.dispatch.specs.Inner.{Runs};
 use directory::RowCount;
 use dispatch_ahead::Ended;
+use dispatch_request::DispatchRequest;
 use dispatch_step::Progress;
 use dispatch_step::Sizes;
 use units::Answer;
@@ -121,7 +122,7 @@ fn run_long(
     requires { ⌜ Admitted (fixedOf sizes (now directory)) (viewOf (now log) «readable_end») (stateOf progress (now counts) (now queues) (now index)) ⌝ }
     ensures { λ r. ⌜ ranOf r (now (counts .exit)) (now (queues .exit)) (now (index .exit)) ≡ run (stepOf (fixedOf sizes (now (directory .entry))) (viewOf (now (log .entry)) «readable_end»)) budget (stateOf progress (now (counts .entry)) (now (queues .entry)) (now (index .entry))) ⌝ }
 {
-    let mut list = [0u32; 16385];
+    let mut list = [0u32; DispatchRequest::MOST_ITEMS];
     let ran = run_steps(
         log,
         readable_end,
@@ -152,7 +153,7 @@ fn run_long(
     behind(call.steps, rest)
 }
 
-// The steps of a call. A list for 64 hashes takes nearly every record; from the first that has more items on, one for any record is taken.
+// The steps of a call. A short list takes nearly every record; from the first that has more items on, one for any record is taken.
 fn run_call(
     log: &[u8],
     readable_end: LogPosition,
@@ -174,7 +175,7 @@ fn run_call(
             progress,
         };
     }
-    let mut list = [0u32; 64];
+    let mut list = [0u32; dispatch_ahead::SHORT_LIST];
     let ran = run_steps(
         log,
         readable_end,

@@ -58,6 +58,9 @@ const REQUEST: usize = 7;
 // The numbers of as many requests as are read ahead.
 pub const REQUESTS: usize = 112;
 
+// The places of a list that has them for the items of nearly every batch.
+pub const SHORT_LIST: usize = 64;
+
 fn bit(b: bool) -> u64
     ensures { λ r. ⌜ r ≡ pick b 1 0 ⌝ }
 {

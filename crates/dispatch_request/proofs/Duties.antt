@@ -18,7 +18,6 @@ use Rattle.directory.specs.declared.Located.the-variants.{Unlisted, Row}
 use Rattle.directory.specs.Directory.{queues as listedQueues, rowOf}
 use Rattle.directory.proofs.Laws.{row-found}
 use Rattle.dispatch_request.specs.Request.{makesEntry, makesItems, rowNumber, tagOf}
-use Rattle.dispatch_request.specs.Reading.{Listed}
 
 -- ---- rule 5
 
@@ -55,10 +54,10 @@ module _ (x : Located) {y : Located} (e : y ≡ x) where
   number-row f = rw (← e, f)
 
 -- the row that is found is one of 16
-pub row-small : (topic : List ℕ) (id : ℕ) (d : List ℕ) (i : ℕ) {x : Located} → Listed d → x ≡ rowOf topic id d → x ≡ Row i → i < 16
-row-small topic id d i l e f = let w = row-found topic id d i (sym e ∙ f) .within in omega (arith, l .few)
+pub row-small : (topic : List ℕ) (id : ℕ) (d : List ℕ) (i : ℕ) {x : Located} → length (listedQueues d) ≤ 16 → x ≡ rowOf topic id d → x ≡ Row i → i < 16
+row-small topic id d i l e f = let w = row-found topic id d i (sym e ∙ f) .within in omega arith
 
-pub number-small : (topic : List ℕ) (id : ℕ) (d : List ℕ) → Listed d → rowNumber (rowOf topic id d) ≤ 16
+pub number-small : (topic : List ℕ) (id : ℕ) (d : List ℕ) → length (listedQueues d) ≤ 16 → rowNumber (rowOf topic id d) ≤ 16
 unfolding rowNumber
 number-small topic id d l = go (rowOf topic id d) refl
   where

@@ -9,7 +9,6 @@ use Rattle.directory.specs.Directory.{queues as listedQueues}
 use Rattle.commit_log.specs.declared.Geometry.{Geometry}
 use Rattle.dispatch_request.specs.declared.DispatchRequest.{DispatchRequest}
 use Rattle.dispatch_request.specs.Request.{itemHashes, View, blank, request, standsAt}
-use Rattle.dispatch_request.specs.Reading.{Listed}
 
 -- an index hash is never negative as a signed 32-bit number
 abbrev pub ItemHashesSmall : Type 0
@@ -45,7 +44,7 @@ RequestFound = (directory : List ℕ) (g : Geometry) (v : View) (p : LogPosition
 -- its row is one of the directory's, or 16
 abbrev pub RequestListed : Type 0
 RequestListed =
-    (directory : List ℕ) (g : Geometry) (v : View) (p : LogPosition) (q : DispatchRequest) (hs : List ℕ) → Listed directory
+    (directory : List ℕ) (g : Geometry) (v : View) (p : LogPosition) (q : DispatchRequest) (hs : List ℕ) → length (listedQueues directory) ≤ 16
     → standsAt directory g v p ≡ request q hs → (q .row ≤ 16) × (q .row < 16 → q .row < length (listedQueues directory))
 
 -- a blank has 8 bytes or more, and ends at or below the readable end

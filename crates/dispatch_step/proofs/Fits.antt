@@ -13,7 +13,9 @@ use Rattle.dispatch_step.specs.Step.{Fixed, State, positionOf, standsHer
 use Rattle.dispatch_step.specs.Door.{Ready, Admitted}
 
 pub listed-of : (f : Fixed) (s : State) → Ready f s → Listed (f .directory)
-listed-of f s y = let l = listed-rows (f .directory) (f .sizes .«queue_entries») (length (s .queues)) (y .rows) (y .listed) in record { some = omega (arith, l .0, l .1); few = omega (arith, l .0, l .2) }
+listed-of f s y =
+    let l = listed-rows (f .directory) (f .sizes .«queue_entries») (length (s .queues)) (y .rows) (y .listed) in
+    record { some = omega (arith, l .0, l .1); few = omega (arith, l .0, l .2) }
 
 pub record Fits (f : Fixed) (s : State) (q : DispatchRequest) : Type 0 where
   pub most : q .total ≤ 4194304
@@ -26,7 +28,7 @@ request-fits f v s q hs h e =
     let k = request-found (f .directory) (f .sizes .geometry) v (s .progress .position) q hs e in
     let y = h .ready in
     let l = listed-rows (f .directory) (f .sizes .«queue_entries») (length (s .queues)) (y .rows) (y .listed) in
-    let r = request-listed (f .directory) (f .sizes .geometry) v (s .progress .position) q hs (listed-of f s y) e in
+    let r = request-listed (f .directory) (f .sizes .geometry) v (s .progress .position) q hs (omega (arith, l .0, l .2)) e in
     record {
       most = k .most;
       low = omega (arith, h .within .to, h .within .end, h .geometry .top);

@@ -13,7 +13,7 @@ use Rattle.dispatch_step.specs.declared.Sizes.{Sizes}
 use Rattle.dispatch_step.specs.declared.Progress.{Progress}
 use Rattle.dispatch_step.specs.declared.Filed.{Filed}
 use Rattle.dispatch_step.specs.declared.Filed.the-variants.{Moved, Stopped}
-use Rattle.dispatch_step.specs.Step.{State, stateOf, positionOf}
+use Rattle.dispatch_step.specs.Step.{State, stateOf, positionOf, filed}
 
 -- a request and the hashes of its items, on a state that the door let through; the slots are good if that is said
 pub record Fileable (z : Sizes) (q : DispatchRequest) (hs : List ℕ) (judged : Bool) (s : State) : Type 0 where
@@ -46,3 +46,7 @@ progressAfter (Stopped a) p = p
 pub record Did (o : Outcome State) (s : State) (r : Filed) (counts queues index : List ℕ) : Type 0 where
   pub ended : r ≡ answerTo o
   pub left : stateOf (progressAfter r (s .progress)) counts queues index ≡ leftOf o s
+
+-- a request and the hashes of its items, filed on s: the answer r and the bytes left
+abbrev pub Files : Sizes → DispatchRequest → List ℕ → State → Filed → List ℕ → List ℕ → List ℕ → Type 0
+Files z q hs s r counts queues index = Did (filed z q hs s) s r counts queues index

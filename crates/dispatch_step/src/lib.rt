@@ -1,7 +1,7 @@
 // One dispatch step: what stands at the position is read as a request, and the request is filed.
 ghost use mathlib.Core.Path.{_≡_};
-ghost use Rattle.dispatch_step.specs.Step.{stateOf, filed};
-ghost use Rattle.dispatch_step.specs.Filing.{Fileable, Did};
+ghost use Rattle.dispatch_step.specs.Step.{stateOf};
+ghost use Rattle.dispatch_step.specs.Filing.{Fileable, Files};
 use commit_log::Geometry;
 use dispatch_request::DispatchRequest;
 use index_file::IndexSizes;
@@ -39,7 +39,7 @@ pub fn file(
     index: &mut [u8],
 ) -> Filed
     requires { ⌜ Fileable sizes request (now list) judged (stateOf progress (now counts) (now queues) (now index)) ⌝ }
-    ensures { λ r. ⌜ Did (filed sizes request (now (list .entry)) (stateOf progress (now (counts .entry)) (now (queues .entry)) (now (index .entry)))) (stateOf progress (now (counts .entry)) (now (queues .entry)) (now (index .entry))) r (now (counts .exit)) (now (queues .exit)) (now (index .exit)) ⌝ }
+    ensures { λ r. ⌜ Files sizes request (now (list .entry)) (stateOf progress (now (counts .entry)) (now (queues .entry)) (now (index .entry))) r (now (counts .exit)) (now (queues .exit)) (now (index .exit)) ⌝ }
 {
     let entries = sizes.queue_entries;
     let z = sizes.index;

@@ -1,1 +1,2 @@
 pub mod SizesMade
+pub mod CountsLent

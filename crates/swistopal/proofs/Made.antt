@@ -20,6 +20,7 @@ use Rattle.listing.specs.declared.Listed.{Listed}
 use Rattle.listing.specs.Listing.{ListOutcome}
 use Rattle.machine.specs.Calls.{call}
 use Rattle.dispatch_step.specs.declared.Sizes.{Sizes}
+use Rattle.dispatch_step.specs.declared.Progress.{Progress}
 use Rattle.dispatch_step.specs.Step.{stateOf}
 use Rattle.dispatch.specs.declared.Dispatched.{Dispatched}
 use Rattle.dispatch.specs.Dispatch.{dispatcher, callOf, ranOf}
@@ -44,17 +45,17 @@ record-read sizes log p end a out n g t h =
     ∙ ap (λ (x : Told). record { answer = numberOf (x .answer); «record» = x .out }) t
     ∙ (λ i. readGives (entryIn log (g i) (position p) (position end)))
 
-pub dispatched : (sizes directory log : List ℕ) (end budget : ℕ) (progress queues files : List ℕ) {z : Sizes} {counts : List ℕ}
+pub dispatched : (sizes directory log : List ℕ) (end budget : ℕ) (progress queues files : List ℕ) {z : Sizes} {now : Progress} {counts : List ℕ}
     (r : Dispatched) (counts′ progress′ queues′ files′ : List ℕ) (n : ℕ)
-    → z ≡ sizesIn sizes → counts ≡ countsIn progress
-    → ranOf r counts′ queues′ files′ ≡ call dispatcher (callOf z directory log (position end) budget) (stateOf (progressIn progress) counts queues files)
+    → z ≡ sizesIn sizes → now ≡ progressIn progress → counts ≡ countsIn progress
+    → ranOf r counts′ queues′ files′ ≡ call dispatcher (callOf z directory log (position end) budget) (stateOf now counts queues files)
     → progress′ ≡ progressOf (r .progress) counts′ → n ≡ numberOf (r .answer)
     → Dispatches (callIn sizes directory log end budget) (lent progress queues files) n (r .steps) (lent progress′ queues′ files′)
 unfolding dispatchGives lentOf stateIn
-dispatched sizes directory log end budget progress queues files r counts′ progress′ queues′ files′ n z c e p h =
+dispatched sizes directory log end budget progress queues files r counts′ progress′ queues′ files′ n z a c e p h =
     (λ i. record { answer = h i; steps = r .steps; left = record { progress = p i; queues = queues′; files = files′ } })
     ∙ ap dispatchGives e
-    ∙ (λ i. dispatchGives (call dispatcher (callOf (z i) directory log (position end) budget) (stateOf (progressIn progress) (c i) queues files)))
+    ∙ (λ i. dispatchGives (call dispatcher (callOf (z i) directory log (position end) budget) (stateOf (a i) (c i) queues files)))
 
 pub queue-read : (queues sizes directory progress : List ℕ) (row start wanted : ℕ) (tag : Tag) (out : List ℕ) {entries : ℕ} {counts : List ℕ} {tag′ : Tag}
     (r : QueueRead) (out′ : List ℕ) (n : ℕ)

@@ -5,7 +5,6 @@ ghost use Rattle.record_writer.specs.Encode.{partsOf};
 ghost use Rattle.listing.specs.Listing.{listing};
 ghost use Rattle.swistopal.specs.Interface.{Appends, readRecord, lent, callIn, Dispatches, tagAsked, readQueue, query, list};
 use consume_queue::Tag;
-use dispatch_step::Progress;
 use units::LogPosition;
 use units::QueueOffset;
 
@@ -74,9 +73,7 @@ pub extern "C" fn swistopal_dispatch(
 ) -> u32
     ensures { λ r. ⌜ Dispatches (callIn (now (sizes .entry)) (now (directory .entry)) (now (log .entry)) «readable_end» budget) (lent (now (progress .entry)) (now (queues .entry)) (now (files .entry))) r (now (steps .exit)) (lent (now (progress .exit)) (now (queues .exit)) (now (files .exit))) ⌝ }
 {
-    let now = Progress {
-        position: LogPosition(progress[0]),
-    };
+    let now = interface::progress_in(progress);
     let mut counts = interface::counts_in(progress);
     let made = dispatch::dispatch(
         log,
@@ -121,13 +118,12 @@ pub extern "C" fn swistopal_read_queue(
 ) -> u32
     ensures { λ r. ⌜ record { answer = r; out = now (out .exit); found = now (found .exit) } ≡ readQueue (now (queues .entry)) (now (sizes .entry)) (now (directory .entry)) (now (progress .entry)) row start wanted (tagAsked «tag_given» «tag_code») (now (out .entry)) ⌝ }
 {
-    let counts = interface::counts_in(progress);
     let tag = tag_asked(tag_given, tag_code);
     let made = consume_queue::read_queue(
         queues,
-        sizes[2],
+        interface::queue_entries_in(sizes),
         directory,
-        &counts,
+        interface::counts_of(progress),
         row,
         QueueOffset(start),
         wanted,

@@ -26,11 +26,17 @@ claims t = (run-steps-reads.Asked, run-steps-reads.Learnt, run-long-below t, run
 
 -- ---- places
 
+abbrev begun : (t : ℕ) → run-long-lts.After-list (claims t) (run-long-at t) run-long.Post → run-long-lts.Start (claims t) (run-long-at t) run-long.Post
+begun t c = c .before .before .before .before .before .before .before .before
+
 abbrev run : (t : ℕ) → run-long-lts.After-call (claims t) (run-long-at t) run-long.Post → run-long-lts.After-run-steps (claims t) (run-long-at t) run-long.Post
 run t c = c .before .before .before .before .before .before
 
 abbrev unended : (t : ℕ) → run-long-lts.After-struct-known (claims t) (run-long-at t) run-long.Post → run-long-lts.Else1 (claims t) (run-long-at t) run-long.Post
 unended t c = c .before .before .before .before
+
+abbrev again : (t : ℕ) → run-long-lts.After-slice-known6 (claims t) (run-long-at t) run-long.Post → run-long-lts.After-struct-known (claims t) (run-long-at t) run-long.Post
+again t c = c .before .before .before .before .before
 
 -- the list was long enough
 never : (t : ℕ) → run-long-lts.Else1 (claims t) (run-long-at t) run-long.Post → ⊥
@@ -42,7 +48,7 @@ slice-aggregate-run-steps : (t : ℕ) → run-long-lts.Need-slice-aggregate-run-
 slice-aggregate-run-steps t c = search needs
 
 run-steps-requires : (t : ℕ) → run-long-lts.Need-run-steps-requires (claims t) (run-long-at t) run-long.Post
-run-steps-requires t c κs = (c .before .before .before .before .before .before .before .before .pre .1, search needs, search needs)
+run-steps-requires t c κs = (begun t c .pre .1, search needs, search needs)
 
 same-length : (t : ℕ) → run-long-lts.Need-same-length (claims t) (run-long-at t) run-long.Post
 same-length t c = search needs
@@ -60,16 +66,16 @@ run-long-requires : (t : ℕ) → run-long-lts.Need-run-long-requires (claims t)
 run-long-requires t c κs = absurd (never t (unended t c))
 
 behind-requires : (t : ℕ) → run-long-lts.Need-behind-requires (claims t) (run-long-at t) run-long.Post
-behind-requires t c κs = absurd (never t (unended t (c .before .before .before .before .before)))
+behind-requires t c κs = absurd (never t (unended t (again t c)))
 
 same-length-3 : (t : ℕ) → run-long-lts.Need-same-length-3 (claims t) (run-long-at t) run-long.Post
-same-length-3 t c = absurd (never t (unended t (c .before .before .before .before .before .before)))
+same-length-3 t c = absurd (never t (unended t (again t (c .before))))
 
 same-length-4 : (t : ℕ) → run-long-lts.Need-same-length-4 (claims t) (run-long-at t) run-long.Post
-same-length-4 t c = absurd (never t (unended t (c .before .before .before .before .before .before)))
+same-length-4 t c = absurd (never t (unended t (again t (c .before))))
 
 returns-2 : (t : ℕ) → run-long-lts.Need-returns-2 (claims t) (run-long-at t) run-long.Post
-returns-2 t c = absurd (never t (unended t (c .before .before .before .before .before .before)))
+returns-2 t c = absurd (never t (unended t (again t (c .before))))
 
 pub +run-long-spec : {M : Type 1} → statement M
 +run-long-spec =

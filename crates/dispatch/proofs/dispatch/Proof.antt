@@ -5,16 +5,25 @@ use borrow.Author.Needs.{needs}
 use Rattle.dispatch.proofs.dispatch.Statement.{statement}
 use Rattle.dispatch.proofs.dispatch.Tie as tie
 
--- ---- places: behind check 1, check 3, check 2
+-- ---- places: behind check 1, check 3, check 2, check 4
 
 abbrev sized : tie.After-queue-rows → tie.Else1
 sized c = c .before
 
-abbrev listed : tie.After-progress-bad → tie.After-enum-told2
+abbrev listed : tie.After-enum-told2 → tie.After-queue-rows
 listed c = c .before .before
 
-abbrev placed : tie.After-header-sound → tie.Else2
-placed c = c .before .before
+abbrev placed : tie.Else2 → tie.After-enum-told2
+placed c = c .before .before .before
+
+abbrev sound : tie.Else3 → tie.Else2
+sound c = c .before .before .before
+
+abbrev inside : tie.After-run-call-arg3 → tie.Else3
+inside c = c .before .before .before
+
+abbrev ran : tie.After-slice-known4 → tie.After-run-call
+ran c = c .before .before .before .before
 
 -- ---- needs
 
@@ -32,54 +41,52 @@ returns-2 c =
 
 progress-bad-requires : tie.Need-progress-bad-requires
 progress-bad-requires c κs =
-    let z = sized (c .before .before .before) in
+    let z = sized (listed (c .before)) in
     sizes-known _ _ _ (taken (z .before .sizes-fit .ensures) (z .if1 .left)) .geometry
 
 returns-3 : tie.Need-returns-3
 returns-3 c =
     let p = c .before .before in
-    let l = listed p in
-    let q = l .before .before in
+    let l = p .before .before in
+    let q = listed l in
     let z = sized q in
     call-shut _ _ _ _ (c .refused3 .ensures)
     (door-position _ _ _ (taken (z .before .sizes-fit .ensures) (z .if1 .left)) (q .queue-rows .ensures) (l .enum-told2 .given .1) (p .progress-bad .ensures) (c .before .if2 .taken))
 
 header-sound-requires : tie.Need-header-sound-requires
 header-sound-requires c κs =
-    let z = sized (listed (c .before .before) .before .before) in
+    let z = sized (listed (placed (c .before))) in
     index-long _ _ _ (taken (z .before .sizes-fit .ensures) (z .if1 .left))
 
 returns-4 : tie.Need-returns-4
 returns-4 c =
     let h = c .before .before in
-    let p = placed h in
-    let l = listed (p .before) in
-    let q = l .before .before in
+    let p = h .before .before in
+    let l = placed p in
+    let q = listed l in
     let z = sized q in
     call-shut _ _ _ _ (c .refused4 .ensures)
     (door-header _ _ _ (taken (z .before .sizes-fit .ensures) (z .if1 .left)) (q .queue-rows .ensures) (l .enum-told2 .given .1) (p .before .progress-bad .ensures) (p .if2 .left) (refused (h .header-sound .ensures) (c .before .if3 .taken)))
 
 run-call-requires : tie.Need-run-call-requires
 run-call-requires c κs =
-    let o = c .before .before .before in
-    let h = o .before in
-    let p = placed h in
-    let l = listed (p .before) in
-    let q = l .before .before in
+    let o = inside c in
+    let p = sound o in
+    let l = placed p in
+    let q = listed l in
     let z = sized q in
-    door-sound _ _ _ (taken (z .before .sizes-fit .ensures) (z .if1 .left)) (q .queue-rows .ensures) (l .enum-told2 .given .1) (p .before .progress-bad .ensures) (p .if2 .left) (taken (h .header-sound .ensures) (o .if3 .left))
+    door-sound _ _ _ (taken (z .before .sizes-fit .ensures) (z .if1 .left)) (q .queue-rows .ensures) (l .enum-told2 .given .1) (p .before .progress-bad .ensures) (p .if2 .left) (taken (o .before .header-sound .ensures) (o .if3 .left))
 
 returns-5 : tie.Need-returns-5
 returns-5 c =
-    let r = c .before .before .before .before in
-    let o = r .before .before .before .before in
-    let h = o .before in
-    let p = placed h in
-    let l = listed (p .before) in
-    let q = l .before .before in
+    let r = ran c in
+    let o = inside (r .before) in
+    let p = sound o in
+    let l = placed p in
+    let q = listed l in
     let z = sized q in
     call-runs _ _ _ _ (r .run-call .ensures)
-    (door-open _ _ _ (taken (z .before .sizes-fit .ensures) (z .if1 .left)) (q .queue-rows .ensures) (l .enum-told2 .given .1) (p .before .progress-bad .ensures) (p .if2 .left) (taken (h .header-sound .ensures) (o .if3 .left)))
+    (door-open _ _ _ (taken (z .before .sizes-fit .ensures) (z .if1 .left)) (q .queue-rows .ensures) (l .enum-told2 .given .1) (p .before .progress-bad .ensures) (p .if2 .left) (taken (o .before .header-sound .ensures) (o .if3 .left)))
 
 pub dispatch-spec : {M : Type 1} → statement M
 dispatch-spec =

@@ -7,8 +7,11 @@ use Rattle.dispatch.proofs.run_call.Tie as tie
 
 -- ---- places
 
+abbrev begun : tie.After-list → tie.Start
+begun c = c .before .before .before .before .before .before .before .before .before
+
 abbrev start : tie.After-run-steps → tie.Start
-start c = c .before .before .before .before .before .before .before .before .before .before
+start c = begun (c .before)
 
 abbrev first : tie.After-call → tie.After-run-steps
 first c = c .before .before .before .before .before .before
@@ -25,7 +28,7 @@ returns : tie.Need-returns
 returns c = run-none _ _ _ (c .if1 .taken)
 
 run-steps-requires : tie.Need-run-steps-requires
-run-steps-requires c κs = (c .before .before .before .before .before .before .before .before .before .pre, search needs, search needs)
+run-steps-requires c κs = (begun c .pre, search needs, search needs)
 
 returns-2 : tie.Need-returns-2
 returns-2 c = first (c .before) .run-steps .ensures .whole (c .if2 .taken)

@@ -20,23 +20,51 @@ abbrev μ-loop : tie.MeasureT-loop
 
 -- ---- places
 
+abbrev begun : tie.After-slice-known3 Inv-loop μ-loop → tie.Start Inv-loop μ-loop
+begun c = c .before .before .before .before .before
+
 abbrev start : tie.At-loop Inv-loop μ-loop → tie.Start Inv-loop μ-loop
-start c = c .before .before .before .before .before .before
+start c = begun (c .before)
+
+abbrev lent : tie.After-advance-arg4 Inv-loop μ-loop → tie.In-loop Inv-loop μ-loop
+lent c = c .before .before .before .before .before
 
 abbrev turn : tie.After-advance Inv-loop μ-loop → tie.In-loop Inv-loop μ-loop
-turn c = c .before .before .before .before .before .before
+turn c = lent (c .before)
+
+-- what was lent comes back: queues, index, list
+
+abbrev queued : tie.After-struct-known Inv-loop μ-loop → tie.After-queues Inv-loop μ-loop
+queued c = c .before .before .before .before .before .before .before
+
+abbrev indexed : tie.After-struct-known Inv-loop μ-loop → tie.After-index Inv-loop μ-loop
+indexed c = c .before .before .before .before .before
+
+abbrev listed : tie.After-struct-known Inv-loop μ-loop → tie.After-list Inv-loop μ-loop
+listed c = c .before .before .before
 
 abbrev advanced : tie.After-struct-known Inv-loop μ-loop → tie.After-advance Inv-loop μ-loop
-advanced c = c .before .before .before .before .before .before .before .before
+advanced c = queued c .before
+
+-- the ways out
+
+abbrev stopped : tie.After-ran-of Inv-loop μ-loop → tie.After-struct-known Inv-loop μ-loop
+stopped c = c .before .before .before .before
+
+abbrev short : tie.After-ran-of2 Inv-loop μ-loop → tie.After-struct-known Inv-loop μ-loop
+short c = c .before .before .before
+
+abbrev spent : tie.After-ran-of3 Inv-loop μ-loop → tie.At-loop Inv-loop μ-loop
+spent c = c .before .before
 
 -- ---- needs
 
 loop-holds : tie.Need-loop-holds Inv-loop μ-loop
-loop-holds c = (going-start _ _ _ _ (c .before .before .before .before .before .pre .0), refl)
+loop-holds c = (going-start _ _ _ _ (begun c .pre .0), refl)
 
 advance-requires : tie.Need-advance-requires Inv-loop μ-loop
 advance-requires c κs =
-    let t = c .before .before .before .before .before .before in
+    let t = lent c .before in
     let p = start t .pre in
     (t .loop .inv .0 .sound, omega (arith, t .loop .inv .1, p .1), omega (arith, t .loop .inv .1, p .2))
 
@@ -54,49 +82,49 @@ loop-again : tie.Need-loop-again Inv-loop μ-loop
 loop-again c =
     let k = c .before .before in
     let t = turn (advanced k) .before .loop .inv in
-    (going-on _ _ _ _ _ _ _ (t .0) (t .1) (advanced k .advance .ensures), k .before .before .before .list .given ∙ t .1)
+    (going-on _ _ _ _ _ _ _ (t .0) (t .1) (advanced k .advance .ensures), listed k .list .given ∙ t .1)
 
 same-length : tie.Need-same-length Inv-loop μ-loop
-same-length c = let k = c .before .before .before .before in k .before .before .before .before .before .before .before .queues .given ∙ turn (advanced k) .before .loop .inv .0 .queued
+same-length c = let k = stopped c in queued k .queues .given ∙ turn (advanced k) .before .loop .inv .0 .queued
 
 same-length-2 : tie.Need-same-length-2 Inv-loop μ-loop
-same-length-2 c = let k = c .before .before .before .before in k .before .before .before .before .before .index .given ∙ turn (advanced k) .before .loop .inv .0 .indexed
+same-length-2 c = let k = stopped c in indexed k .index .given ∙ turn (advanced k) .before .loop .inv .0 .indexed
 
 same-length-3 : tie.Need-same-length-3 Inv-loop μ-loop
-same-length-3 c = let k = c .before .before .before .before in k .before .before .before .list .given ∙ turn (advanced k) .before .loop .inv .1
+same-length-3 c = let k = stopped c in listed k .list .given ∙ turn (advanced k) .before .loop .inv .1
 
 returns : tie.Need-returns Inv-loop μ-loop
 returns c =
-    let a = advanced (c .before .before .before .before) in
+    let a = advanced (stopped c) in
     let t = turn a .before .loop .inv in
     runs-stopped _ _ _ _ _ _ _ (t .0) (t .1) (a .advance .ensures) (c .before .before .ended .given .1) (c .ran-of .ensures)
 
 same-length-4 : tie.Need-same-length-4 Inv-loop μ-loop
-same-length-4 c = let k = c .before .before .before in k .before .before .before .before .before .before .before .queues .given ∙ turn (advanced k) .before .loop .inv .0 .queued
+same-length-4 c = let k = short c in queued k .queues .given ∙ turn (advanced k) .before .loop .inv .0 .queued
 
 same-length-5 : tie.Need-same-length-5 Inv-loop μ-loop
-same-length-5 c = let k = c .before .before .before in k .before .before .before .before .before .index .given ∙ turn (advanced k) .before .loop .inv .0 .indexed
+same-length-5 c = let k = short c in indexed k .index .given ∙ turn (advanced k) .before .loop .inv .0 .indexed
 
 same-length-6 : tie.Need-same-length-6 Inv-loop μ-loop
-same-length-6 c = let k = c .before .before .before in k .before .before .before .list .given ∙ turn (advanced k) .before .loop .inv .1
+same-length-6 c = let k = short c in listed k .list .given ∙ turn (advanced k) .before .loop .inv .1
 
 returns-2 : tie.Need-returns-2 Inv-loop μ-loop
 returns-2 c =
-    let a = advanced (c .before .before .before) in
+    let a = advanced (short c) in
     let t = turn a .before .loop .inv in
     runs-long _ _ _ _ _ _ _ (t .0) (t .1) (a .advance .ensures) (c .before .enum-told2 .given .1) (c .ran-of2 .ensures)
 
 same-length-7 : tie.Need-same-length-7 Inv-loop μ-loop
-same-length-7 c = c .before .before .loop .inv .0 .queued
+same-length-7 c = spent c .loop .inv .0 .queued
 
 same-length-8 : tie.Need-same-length-8 Inv-loop μ-loop
-same-length-8 c = c .before .before .loop .inv .0 .indexed
+same-length-8 c = spent c .loop .inv .0 .indexed
 
 same-length-9 : tie.Need-same-length-9 Inv-loop μ-loop
-same-length-9 c = c .before .before .loop .inv .1
+same-length-9 c = spent c .loop .inv .1
 
 returns-3 : tie.Need-returns-3 Inv-loop μ-loop
-returns-3 c = runs-spent _ _ _ _ _ _ _ (c .before .before .loop .inv .0) (c .before .loop-test .left) (c .ran-of3 .ensures)
+returns-3 c = runs-spent _ _ _ _ _ _ _ (spent c .loop .inv .0) (c .before .loop-test .left) (c .ran-of3 .ensures)
 
 pub run-steps-spec : {M : Type 1} → statement M
 run-steps-spec =

@@ -23,20 +23,35 @@ abbrev μ-loop : tie.MeasureT-loop
 
 -- ---- places
 
+abbrev begun : tie.After-read-ahead-arg2 Inv-loop μ-loop → tie.Start Inv-loop μ-loop
+begun c = c .before .before .before .before .before .before .before .before
+
 abbrev start : tie.After-read-ahead Inv-loop μ-loop → tie.Start Inv-loop μ-loop
-start c = c .before .before .before .before .before .before .before .before .before
+start c = begun (c .before)
+
+abbrev returned : tie.At-loop Inv-loop μ-loop → tie.After-list Inv-loop μ-loop
+returned c = c .before .before .before .before .before
 
 abbrev batch : tie.At-loop Inv-loop μ-loop → tie.After-read-ahead Inv-loop μ-loop
-batch c = c .before .before .before .before .before .before
+batch c = returned c .before
 
 abbrev turn : tie.After-request-at Inv-loop μ-loop → tie.In-loop Inv-loop μ-loop
 turn c = c .before .before
 
+abbrev in-hand : tie.After-file-arg4 Inv-loop μ-loop → tie.After-request-at Inv-loop μ-loop
+in-hand c = c .before .before .before .before .before .before
+
 abbrev request : tie.After-file Inv-loop μ-loop → tie.After-request-at Inv-loop μ-loop
-request c = c .before .before .before .before .before .before .before
+request c = in-hand (c .before)
 
 abbrev written : tie.After-slice-known6 Inv-loop μ-loop → tie.After-file Inv-loop μ-loop
 written c = c .before .before .before .before
+
+abbrev stopped : tie.After-advance-of Inv-loop μ-loop → tie.After-slice-known6 Inv-loop μ-loop
+stopped c = c .before .before .before .before
+
+abbrev moved : tie.After-known-told Inv-loop μ-loop → tie.After-slice-known6 Inv-loop μ-loop
+moved c = c .before .before .before
 
 -- ---- what is known there
 
@@ -52,7 +67,7 @@ known c = c .loop .inv .all _ (batch c .read-ahead .ensures) (start (batch c) .p
 
 -- the list is as long as before
 long : (c : tie.At-loop Inv-loop μ-loop) → length (list (batch c)) ≡ length (start (batch c) .args .list .now)
-long c = c .before .before .before .before .before .list .given
+long c = returned c .list .given
 
 -- the hashes of the request in hand
 within : (c : tie.After-request-at Inv-loop μ-loop) → turn c .before .loop .first + c .request-at .result .items ≤ length (list (batch (turn c .before)))
@@ -64,7 +79,7 @@ within c =
 
 read-ahead-requires : tie.Need-read-ahead-requires Inv-loop μ-loop
 read-ahead-requires c κs =
-    let p = c .before .before .before .before .before .before .before .before .pre in
+    let p = begun c .pre in
     (p .0 .geometry, p .0 .within, listed-of _ _ (p .0 .ready), p .1)
 
 slice-reshare-prefix-slots-bad : tie.Need-slice-reshare-prefix-slots-bad Inv-loop μ-loop
@@ -93,41 +108,41 @@ part-file-end c = omega (arith, within (c .before .before))
 
 file-requires : tie.Need-file-requires Inv-loop μ-loop
 file-requires c κs =
-    let q = c .before .before .before .before .before .before in
+    let q = in-hand c in
     let t = turn q .before in
     turn-fileable _ _ _ _ _ _ _ (batch t .read-ahead .ensures) _ _ _ _ _ (known t) (turn q .loop-test .taken) _ (q .request-at .ensures) (omega (arith, long t, start (batch t) .pre .2))
 
 same-length : tie.Need-same-length Inv-loop μ-loop
 same-length c =
-    let k = c .before .before .before .before in
+    let k = stopped c in
     k .before .before .before .queues .given ∙ turn (request (written k)) .before .loop .inv .queued
 
 same-length-2 : tie.Need-same-length-2 Inv-loop μ-loop
 same-length-2 c =
-    let k = c .before .before .before .before in
+    let k = stopped c in
     k .before .index .given ∙ turn (request (written k)) .before .loop .inv .indexed
 
 same-length-3 : tie.Need-same-length-3 Inv-loop μ-loop
-same-length-3 c = long (turn (request (written (c .before .before .before .before))) .before)
+same-length-3 c = long (turn (request (written (stopped c))) .before)
 
 returns : tie.Need-returns Inv-loop μ-loop
 returns c =
-    let w = written (c .before .before .before .before) in
+    let w = written (stopped c) in
     let q = request w in
     let t = turn q .before in
     turn-off _ _ _ _ _ _ _ (batch t .read-ahead .ensures) _ _ _ _ _ (known t) (turn q .loop-test .taken) _ (q .request-at .ensures) _ _ _ _ (w .file .ensures) _ (c .before .before .filed2 .given .1) (c .advance-of .ensures)
 
 add-done : tie.Need-add-done Inv-loop μ-loop
 add-done c =
-    let i = turn (request (written (c .before .before .before))) in
+    let i = turn (request (written (moved c))) in
     omega (arith, i .loop-test .taken, batch (i .before) .read-ahead .ensures .few)
 
 loop-less : tie.Need-loop-less Inv-loop μ-loop
-loop-less c = let i = turn (request (written (c .before .before .before))) in omega (arith, i .loop-test .taken)
+loop-less c = let i = turn (request (written (moved c))) in omega (arith, i .loop-test .taken)
 
 loop-again : tie.Need-loop-again Inv-loop μ-loop
 loop-again c =
-    let w = written (c .before .before .before) in
+    let w = written (moved c) in
     let q = request w in
     let t = turn q .before in
     underway-on _ _ _ _ _ _ _ _ _ (batch t .read-ahead .ensures) (start (batch t) .pre .0) _ _ _ (t .loop .inv) (turn q .loop-test .taken) _ (q .request-at .ensures) _ _ _ _ (w .file .ensures) (c .before .filed .given .1)

@@ -6,8 +6,18 @@ use borrow.Author.Needs.{needs}
 use Rattle.dispatch_ahead.proofs.pass.Statement.{statement}
 use Rattle.dispatch_ahead.proofs.pass.Tie as tie
 
+-- ---- places
+
+abbrev on-blank : tie.After-struct-known → tie.After-behind2
+on-blank c = c .before .before
+
+abbrev start : tie.After-behind2 → tie.Start
+start c = c .before .before
+
+-- ---- needs
+
 add-position : tie.Need-add-position
-add-position c = record { fits = c .before .before .before .before .pre .1 _ (c .before .before .behind2 .given .1) }
+add-position c = record { fits = start (on-blank c) .pre .1 _ (on-blank c .behind2 .given .1) }
 
 returns : tie.Need-returns
 unfolding passBy
@@ -19,7 +29,7 @@ returns-2 c = rw (c .before .before .behind .given .1) (c .advance-of2 .ensures)
 
 returns-3 : tie.Need-returns-3
 unfolding passBy
-returns-3 c = rw (c .before .before .before .behind2 .given .1) (c .advance-of3 .ensures)
+returns-3 c = rw (on-blank (c .before) .behind2 .given .1) (c .advance-of3 .ensures)
 
 returns-4 : tie.Need-returns-4
 unfolding passBy pick

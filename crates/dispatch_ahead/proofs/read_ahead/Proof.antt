@@ -24,8 +24,11 @@ abbrev μ-loop : tie.MeasureT-loop
 
 -- ---- places
 
+abbrev begun : tie.After-geometry Inv-loop μ-loop → tie.Start Inv-loop μ-loop
+begun c = c .before .before .before .before
+
 abbrev start : tie.At-loop Inv-loop μ-loop → tie.Start Inv-loop μ-loop
-start c = c .before .before .before .before .before
+start c = begun (c .before)
 
 abbrev in-turn : tie.After-slice-known2 Inv-loop μ-loop → tie.In-loop Inv-loop μ-loop
 in-turn c = c .before .before .before .before
@@ -35,6 +38,18 @@ on-record c = c .before .before .before
 
 abbrev in-turn-of : tie.After-put-request Inv-loop μ-loop → tie.In-loop Inv-loop μ-loop
 in-turn-of c = in-turn (on-record c .before .before)
+
+abbrev stopped : tie.After-batch-of Inv-loop μ-loop → tie.After-slice-known2 Inv-loop μ-loop
+stopped c = c .before .before .before .before
+
+abbrev on-blank : tie.After-batch-of2 Inv-loop μ-loop → tie.After-slice-known2 Inv-loop μ-loop
+on-blank c = c .before .before .before .before
+
+abbrev full : tie.After-batch-of3 Inv-loop μ-loop → tie.After-slice-known2 Inv-loop μ-loop
+full c = c .before .before .before
+
+abbrev kept : tie.After-struct-known3 Inv-loop μ-loop → tie.After-put-request Inv-loop μ-loop
+kept c = c .before .before .before
 
 -- ---- what is known there
 
@@ -59,7 +74,7 @@ size c = omega (arith, start c .good .1 .1 .1 .1 .1 .1 .1 .0 .1)
 -- ---- needs
 
 loop-holds : tie.Need-loop-holds Inv-loop μ-loop
-loop-holds c sizes e = reading-start _ _ _ _ _ _ (rw e (c .before .before .before .before .pre .1))
+loop-holds c sizes e = reading-start _ _ _ _ _ _ (rw e (begun c .pre .1))
 
 mul-read-request : tie.Need-mul-read-request Inv-loop μ-loop
 mul-read-request c = omega (arith, going c, inv (c .before) .long, size (c .before))
@@ -81,34 +96,34 @@ read-request-requires c κs =
 
 same-length : tie.Need-same-length Inv-loop μ-loop
 same-length c =
-    let k = c .before .before .before .before in
+    let k = stopped c in
     k .before .list .given .1 ∙ inv (in-turn k .before) .long
 
 returns : tie.Need-returns Inv-loop μ-loop
 returns c =
-    let k = c .before .before .before .before in
+    let k = stopped c in
     let t = in-turn k in
     reading-stop _ _ _ _ _ _ _ _ _ _ (inv (t .before)) _ (k .before .list .given) (k .before .before .read-request .ensures) (going t .1) (c .before .before .next .given .1) (c .batch-of .ensures)
 
 same-length-2 : tie.Need-same-length-2 Inv-loop μ-loop
 same-length-2 c =
-    let k = c .before .before .before .before in
+    let k = on-blank c in
     k .before .list .given .1 ∙ inv (in-turn k .before) .long
 
 returns-2 : tie.Need-returns-2 Inv-loop μ-loop
 returns-2 c =
-    let k = c .before .before .before .before in
+    let k = on-blank c in
     let t = in-turn k in
     reading-blank _ _ _ _ _ _ _ _ _ _ (inv (t .before)) _ (k .before .list .given) (k .before .before .read-request .ensures) (going t .1) (c .before .before .next2 .given .1) (c .batch-of2 .ensures)
 
 same-length-3 : tie.Need-same-length-3 Inv-loop μ-loop
 same-length-3 c =
-    let k = c .before .before .before in
+    let k = full c in
     k .before .list .given .1 ∙ inv (in-turn k .before) .long
 
 returns-3 : tie.Need-returns-3 Inv-loop μ-loop
 returns-3 c =
-    let k = c .before .before .before in
+    let k = full c in
     let t = in-turn k in
     reading-long _ _ _ _ _ _ _ _ _ _ (inv (t .before)) _ (k .before .list .given) (k .before .before .read-request .ensures) (going t .1) (c .before .enum-told .given .1) (c .batch-of3 .ensures)
 
@@ -126,21 +141,21 @@ add-items c =
 
 add-t34 : tie.Need-add-t34 Inv-loop μ-loop
 add-t34 c =
-    let q = on-record (c .before .before .before) in
+    let q = on-record (kept c) in
     let k = q .before .before in
     let t = in-turn k .before in
     let l = next-below _ _ _ _ (k .before .before .read-request .ensures) (q .next3 .given .1) in
     omega (arith, l, inv t .within, start t .pre .0 .top)
 
 add-records : tie.Need-add-records Inv-loop μ-loop
-add-records c = omega (arith, going (in-turn-of (c .before .before .before)))
+add-records c = omega (arith, going (in-turn-of (kept c)))
 
 loop-less : tie.Need-loop-less Inv-loop μ-loop
-loop-less c = omega (arith, going (in-turn-of (c .before .before .before)))
+loop-less c = omega (arith, going (in-turn-of (kept c)))
 
 loop-again : tie.Need-loop-again Inv-loop μ-loop
 loop-again c sizes e =
-    let p = c .before .before .before in
+    let p = kept c in
     let q = on-record p in
     let k = q .before .before in
     let t = in-turn k in

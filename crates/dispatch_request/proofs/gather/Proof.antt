@@ -6,25 +6,47 @@ use borrow.Author.Needs.{needs}
 use Rattle.dispatch_request.proofs.gather.Statement.{statement}
 use Rattle.dispatch_request.proofs.gather.Tie as tie
 
+-- ---- places
+
+abbrev start : tie.Else1 → tie.Start
+start c = c .before .before .before .before
+
+abbrev unique : tie.After-slice-known2 → tie.After-gather-unique
+unique c = c .before .before
+
+abbrev hashed : tie.After-gather-unique → tie.After-topic-hash
+hashed c = c .before .before .before
+
+abbrev valued : tie.After-gather-keys-arg → tie.After-slice-known2
+valued c = c .before .before
+
+abbrev keyed : tie.After-slice-known3 → tie.After-gather-keys
+keyed c = c .before .before
+
+-- ---- needs
+
 returns : tie.Need-returns
 returns c = none-made _ _ _ _ (c .if1 .taken)
 
 value-requires : tie.Need-value-requires
-value-requires c κs = unique-key-inside _ (c .before .before .before .before .before .pre .0)
+value-requires c κs = unique-key-inside _ (start (c .before) .pre .0)
 
 value-requires-2 : tie.Need-value-requires-2
-value-requires-2 c κs = keys-inside _ (c .before .before .before .before .before .before .before .before .before .before .pre .0)
+value-requires-2 c κs = keys-inside _ (start (hashed (unique c) .before) .pre .0)
 
 gather-keys-requires : tie.Need-gather-keys-requires
 gather-keys-requires c κs =
-    let g = c .before .before .before .before .gather-unique .ensures in
-    omega (arith, unique-fits _ _ _ (c .before .before .before .before .before .before .before .before .before .before .before .before .pre .1) g, g .long)
+    let u = unique (valued c) in
+    let g = u .gather-unique .ensures in
+    omega (arith, unique-fits _ _ _ (start (hashed u .before) .pre .1) g, g .long)
 
 returns-2 : tie.Need-returns-2
 returns-2 c =
-    let d = c .before .before .before .before .before .before .before in
-    let s = d .before .before .before .before .before .before .before .before in
-    all-made _ _ _ _ _ (d .before .before .before .before .if1 .left) (d .before .before .before .topic-hash .ensures) (s .pre .0) (d .before .before .value .ensures) (c .before .before .before .before .value2 .ensures) (s .pre .1) (d .gather-unique .ensures) (c .before .before .gather-keys .ensures)
+    let k = keyed c in
+    let u = unique (valued (k .before)) in
+    let h = hashed u in
+    let p = start (h .before) .pre in
+    all-made _ _ _ _ _ (h .before .if1 .left) (h .topic-hash .ensures) (p .0) (u .before .before .value .ensures) (k .before .before .value2 .ensures) (p .1) (u .gather-unique .ensures) (k .gather-keys .ensures)
 
 pub gather-spec : {M : Type 1} → statement M
 gather-spec =

@@ -16,45 +16,70 @@ Inv-loop prefix keys first list₀ number₀ at₀ list number at = Gathering pr
 abbrev μ-loop : tie.MeasureT-loop
 μ-loop prefix keys first list₀ number₀ at₀ list number at = length keys - at
 
+-- ---- places
+
+abbrev start : tie.At-loop Inv-loop μ-loop → tie.Start Inv-loop μ-loop
+start c = c .before .before .before
+
+abbrev asked : tie.After-next Inv-loop μ-loop → tie.After-next-key Inv-loop μ-loop
+asked c = c .before .before
+
+abbrev turn : tie.After-next Inv-loop μ-loop → tie.At-loop Inv-loop μ-loop
+turn c = c .before .before .before
+
+abbrev full : tie.Then1 Inv-loop μ-loop → tie.After-next Inv-loop μ-loop
+full c = c .before .before
+
+abbrev kept : tie.After-struct-known Inv-loop μ-loop → tie.After-next Inv-loop μ-loop
+kept c = c .before .before .before
+
+abbrev hashed : tie.After-key-hash Inv-loop μ-loop → tie.After-struct-known Inv-loop μ-loop
+hashed c = c .before .before
+
+abbrev last : tie.After-enum-told Inv-loop μ-loop → tie.At-loop Inv-loop μ-loop
+last c = c .before .before .before
+
+-- the key that came
+told : (c : tie.After-next Inv-loop μ-loop) → KeyLeads (turn c .loop .at) (start (turn c) .args .keys .now) (c .next .given .0 .0)
+told c = key-next _ _ _ (turn c .loop .inv .low) (sym (asked c .next-key .ensures) ∙ c .next .given .1)
+
+-- ---- needs
+
 loop-holds : tie.Need-loop-holds Inv-loop μ-loop
 loop-holds c = gathering-start _ _ _ _ (c .before .before .pre)
 
--- the key that came
-told : (c : tie.After-next Inv-loop μ-loop) → KeyLeads (c .before .before .before .loop .at) (c .before .before .before .before .before .before .args .keys .now) (c .next .given .0 .0)
-told c = key-next _ _ _ (c .before .before .before .loop .inv .low) (sym (c .before .before .next-key .ensures) ∙ c .next .given .1)
-
 add-result : tie.Need-add-result Inv-loop μ-loop
-add-result c = omega (arith, c .before .before .before .before .before .loop .inv .place)
+add-result c = omega (arith, turn (full c) .loop .inv .place)
 
 add-end : tie.Need-add-end Inv-loop μ-loop
-add-end c = omega (arith, told (c .before .before .before))
+add-end c = omega (arith, told (kept c))
 
 sub-key-hash : tie.Need-sub-key-hash Inv-loop μ-loop
-sub-key-hash c = omega (arith, told (c .before .before .before))
+sub-key-hash c = omega (arith, told (kept c))
 
 part-key-hash-start : tie.Need-part-key-hash-start Inv-loop μ-loop
-part-key-hash-start c = omega (arith, told (c .before .before .before))
+part-key-hash-start c = omega (arith, told (kept c))
 
 part-key-hash-end : tie.Need-part-key-hash-end Inv-loop μ-loop
-part-key-hash-end c = omega (arith, told (c .before .before .before))
+part-key-hash-end c = omega (arith, told (kept c))
 
 loop-less : tie.Need-loop-less Inv-loop μ-loop
-loop-less c = omega (arith, told (c .before .before .before .before .before))
+loop-less c = omega (arith, told (kept (hashed c)))
 
 loop-again : tie.Need-loop-again Inv-loop μ-loop
-loop-again c = gathering-on _ _ _ _ _ _ _ (c .before .before .before .before .before .before .before .before .loop .inv) _ (told (c .before .before .before .before .before)) (omega arith) (c .key-hash .ensures)
+loop-again c = gathering-on _ _ _ _ _ _ _ (turn (kept (hashed c)) .loop .inv) _ (told (kept (hashed c))) (omega arith) (c .key-hash .ensures)
 
 same-length : tie.Need-same-length Inv-loop μ-loop
-same-length c = c .before .before .before .loop .inv .long
+same-length c = last c .loop .inv .long
 
 returns : tie.Need-returns Inv-loop μ-loop
-returns c = gathering-end _ _ _ _ _ _ _ (c .before .before .before .loop .inv) (key-done _ _ (sym (c .before .before .next-key .ensures) ∙ c .enum-told .given .1))
+returns c = gathering-end _ _ _ _ _ _ _ (last c .loop .inv) (key-done _ _ (sym (c .before .before .next-key .ensures) ∙ c .enum-told .given .1))
 
 same-length-2 : tie.Need-same-length-2 Inv-loop μ-loop
-same-length-2 c = c .before .before .before .before .before .loop .inv .long
+same-length-2 c = turn (full c) .loop .inv .long
 
 returns-2 : tie.Need-returns-2 Inv-loop μ-loop
-returns-2 c = gathering-full _ _ _ _ _ _ _ (c .before .before .before .before .before .loop .inv) _ (told (c .before .before)) (c .if1 .taken)
+returns-2 c = gathering-full _ _ _ _ _ _ _ (turn (full c) .loop .inv) _ (told (full c)) (c .if1 .taken)
 
 pub gather-keys-spec : {M : Type 1} → statement M
 gather-keys-spec =

@@ -76,6 +76,9 @@ returns c =
 tag-of-requires : tie.Need-tag-of-requires
 tag-of-requires c κs = tags-found _ (made (c .before) .before .scan .ensures)
 
+row-number-requires : tie.Need-row-number-requires
+row-number-requires c κs = start (measured (flagged (made (c .before .before .before)))) .pre .1
+
 get-u64-requires : tie.Need-get-u64-requires
 get-u64-requires c κs = omega (arith, held (lengths c))
 
@@ -124,7 +127,7 @@ request-of-spec =
     returns
     tag-of-requires
     (search needs)
-    (search needs)
+    row-number-requires
     (search needs)
     get-u64-requires
     add-get-u64

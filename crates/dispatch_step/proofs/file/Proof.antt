@@ -4,24 +4,36 @@ use native.Mathlib.Omega.{arith}
 use Rattle.units.specs.declared.Answer.the-variants.{Done}
 use Rattle.consume_queue.proofs.Entering.{enterable-of}
 use Rattle.index_file.proofs.Items.{checked-room}
+use Rattle.dispatch_step.specs.Step.{stateOf}
 use Rattle.dispatch_step.proofs.Filing.{answer-done, file-halted, file-broken, file-done}
 use borrow.Author.Needs.{needs}
 use Rattle.dispatch_step.proofs.file.Statement.{statement}
 use Rattle.dispatch_step.proofs.file.Tie as tie
 
--- ---- places
-
-abbrev passed-6 : tie.Else2 → tie.Else1
-passed-6 c = c .before .before .before .before
+-- ---- places: behind rule 6, behind rule 7, behind the entry. The order of the calls is said here alone
 
 abbrev start : tie.Else1 → tie.Start
 start c = c .before .before .before .before .before .before .before .before .before .before
 
-abbrev entered : tie.After-put-all → tie.After-enter
-entered c = c .before .before .before .before
+abbrev judging : tie.After-items-answer-arg → tie.Else1
+judging c = c .before
 
-abbrev passed-7 : tie.After-enter → tie.Else2
-passed-7 c = c .before .before .before
+abbrev entering : tie.After-enter-arg2 → tie.Else1
+entering c = c .before .before .before .before .before .before
+
+abbrev passed-7 : tie.After-put-all-arg → tie.Else2
+passed-7 c = c .before .before .before .before .before .before
+
+abbrev entered : tie.After-put-all-arg → tie.After-enter
+entered c = c .before .before .before
+
+-- the same in any order
+
+abbrev judged : tie.Else2 → tie.After-items-answer
+judged c = c .before .before
+
+abbrev written : tie.After-struct-known2 → tie.After-put-all
+written c = c .before .before .before .before
 
 -- ---- needs
 
@@ -29,36 +41,38 @@ returns : tie.Need-returns
 returns c = file-halted _ _ _ _ (c .before .before .entry-answer .ensures) (c .before .number .ensures) (c .if1 .taken)
 
 items-answer-requires : tie.Need-items-answer-requires
-items-answer-requires c κs = let p = start (c .before) .pre in (p .sized, p .few, p .good)
+items-answer-requires c κs = let p = start (judging c) .pre in (p .sized, p .few, p .good)
 
 returns-2 : tie.Need-returns-2
 returns-2 c =
-    let e = c .before .before .before .before in
-    file-broken _ _ _ _ (e .before .before .entry-answer .ensures) (e .before .number .ensures) (e .if1 .left) (c .before .before .items-answer .ensures) (c .before .number2 .ensures) (c .if2 .taken)
+    let a = c .before .before in
+    let e = judging (a .before) in
+    let s = start e .args in
+    file-broken (s .sizes) (s .request) (s .list .now) (stateOf (s .progress) (s .counts .now) (s .queues .now) (s .index .now)) (e .before .before .entry-answer .ensures) (e .before .number .ensures) (e .if1 .left) (a .items-answer .ensures) (c .before .number2 .ensures) (c .if2 .taken)
 
 enter-requires : tie.Need-enter-requires
 enter-requires c κs =
-    let e = passed-6 (c .before .before) in
+    let e = entering c in
     let p = start e .pre in
     (λ m. enterable-of _ _ _ _ _ _ (p .entries) (p .counted) (p .row) (p .region) (answer-done (e .before .before .entry-answer .ensures) (e .before .number .ensures) (e .if1 .left)) m, p .most)
 
 put-all-requires : tie.Need-put-all-requires
 put-all-requires c κs =
-    let e = passed-7 (c .before .before .before) in
-    checked-room _ _ _ _ _ (start (passed-6 e) .pre .sized) (answer-done (e .before .before .items-answer .ensures) (e .before .number2 .ensures) (e .if2 .left))
+    let b = passed-7 c in
+    checked-room _ _ _ _ _ (start (entering (entered c .before)) .pre .sized) (answer-done (judged b .items-answer .ensures) (b .before .number2 .ensures) (b .if2 .left))
 
 add-behind : tie.Need-add-behind
 add-behind c =
-    let p = start (passed-6 (passed-7 (entered (c .before .before .before .before)))) .pre in
+    let p = start (entering (entered (written c .before) .before)) .pre in
     omega (arith, p .most, p .low)
 
 returns-3 : tie.Need-returns-3
 returns-3 c =
-    let w = c .before .before .before .before in
-    let n = entered w in
-    let b = passed-7 n in
-    let e = passed-6 b in
-    file-done _ _ _ _ (e .before .before .entry-answer .ensures) (e .before .number .ensures) (e .if1 .left) (b .before .before .items-answer .ensures) (b .before .number2 .ensures) (b .if2 .left)
+    let w = written c in
+    let n = entered (w .before) in
+    let b = passed-7 (w .before) in
+    let e = entering (n .before) in
+    file-done _ _ _ _ (e .before .before .entry-answer .ensures) (e .before .number .ensures) (e .if1 .left) (judged b .items-answer .ensures) (b .before .number2 .ensures) (b .if2 .left)
     (n .enter .ensures .1) (n .enter .ensures .0) (w .put-all .ensures) (omega arith)
 
 pub file-spec : {M : Type 1} → statement M
