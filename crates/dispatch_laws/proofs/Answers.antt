@@ -1,24 +1,24 @@
 -- No step is stopped with 9: a call that answers 9 has spent its budget. Assumes nothing.
 use Prim.Native.Nat.{ℕ, _+_}
 use mathlib.Core.Path.{_≡_, refl, subst}
+use mathlib.Core.Logic.{_⊎_, inl, inr}
 use mathlib.Core.Bool.{Bool, true, false, not, _&&_, _||_}
 use mathlib.Core.List.{List}
 use native.Mathlib.Omega.{arith}
 use lib.Dec.{ltb, leb, eqb}
 use lib.ListN.{length, getD, take}
-use Rattle.codec.specs.Bytes.{big, field, part}
+use Rattle.codec.proofs.Choices.{pick-either}
 use Rattle.units.specs.declared.LogPosition.{LogPosition}
 use Rattle.units.specs.declared.QueueOffset.{QueueOffset}
 use Rattle.units.specs.declared.Answer.{Answer}
 use Rattle.units.specs.declared.Answer.the-variants.{Done, NotReadable, Damaged}
 use Rattle.units.specs.Answers.{numberOf}
-use Rattle.record.specs.declared.Record.{Record}
 use Rattle.record.specs.declared.LogEntry.{LogEntry}
 use Rattle.record.specs.declared.LogEntry.the-variants.{Stop, Blank, Message}
-use Rattle.record.specs.Record.{isHere, isSound, headOf, headAt, headed, entryAt}
+use Rattle.record.specs.Record.{entryAt}
+use Rattle.record.proofs.Stops.{entry-stops}
 use Rattle.commit_log.specs.declared.Geometry.{Geometry}
 use Rattle.commit_log.specs.Log.{segmentRest, seen, entryWithin}
-use Rattle.commit_log.proofs.Outcomes.{pick-either}
 use Rattle.consume_queue.specs.Entering.{entryAnswer}
 use Rattle.index_file.specs.Items.{isAhead, isFull, anyBadSlot, itemsAnswer}
 use Rattle.machine.specs.Steps.{Outcome, moved, stopped}
@@ -45,38 +45,12 @@ Goes o = (a : Answer) → o ≡ stopped a → Ruled a
 
 -- ---- rules 2 to 4
 
-stops : (b : Answer) → Ruled b → Reads (Stop b)
-stops b r a e = let same : b ≡ a = cc in subst Ruled same r
-
-damaged : Reads (Stop Damaged)
-damaged = stops Damaged refl
-
-unreadable : Reads (Stop NotReadable)
-unreadable = stops NotReadable refl
-
-blank : (n : ℕ) → Reads (Blank n)
-blank n a e = absurd (let z : _≡_ {A = ℕ} 0 1 = cc in omega arith)
-
-message : {m : Record} → Reads (Message m)
-message a e = absurd (let z : _≡_ {A = ℕ} 0 1 = cc in omega arith)
-
 entry-reads : (p : LogPosition) (r : ℕ) (seen : List ℕ) → Reads (entryAt p r seen)
-unfolding entryAt headAt headOf headed
-entry-reads p r seen =
-    let room = length seen in
-    let total = field big 4 0 seen in
-    let magic = field big 4 4 seen in
-    pick-either (λ k. Reads (headed p seen k)) (ltb r 8) _ _ damaged
-    (pick-either (λ k. Reads (headed p seen k)) (ltb room 8) _ _ unreadable
-    (pick-either (λ k. Reads (headed p seen k)) (eqb magic 0xCBD43194) _ _
-    (pick-either (λ k. Reads (headed p seen k)) (eqb total r) _ _
-    (pick-either (λ k. Reads (headed p seen k)) (ltb room r) _ _ unreadable (blank r))
-    damaged)
-    (pick-either (λ k. Reads (headed p seen k)) (eqb magic 0xDAA320A7) _ _
-    (pick-either (λ k. Reads (headed p seen k)) (ltb total 92 || ltb 4194304 total || ltb r (total + 8)) _ _ damaged
-    (pick-either (λ k. Reads (headed p seen k)) (ltb room total) _ _ unreadable
-    (pick-either Reads (isHere p (take total seen) && isSound (take total seen)) _ _ message damaged)))
-    damaged)))
+entry-reads p r seen a e = by (entry-stops p r seen a e)
+  where
+    by : (a ≡ NotReadable) ⊎ (a ≡ Damaged) → Ruled a
+    by (inl z) = rw z refl
+    by (inr z) = rw z refl
 
 -- ---- rules 1 to 4
 

@@ -19,7 +19,7 @@ use Rattle.properties.specs.Parts.{filled, bytesAt}
 use Rattle.properties.specs.Finder.{uniqueKeyName, finder, scanned, foundBytes}
 use Rattle.properties.specs.Keys.{keyPlaces}
 use Rattle.properties.proofs.Places.{keys-few, finder-filled}
-use Rattle.dispatch_request.specs.Request.{isFound, uniqueKey, keysAt, keysIn, itemKeys, itemHashes, recordHashes}
+use Rattle.dispatch_request.specs.Request.{isFound, uniqueKey, keysAt, keysIn, itemKeys, recordKeys, itemHashes, recordHashes}
 use Rattle.dispatch_request.specs.Inner.{hashes, filledOne}
 use Rattle.dispatch_request.specs.Claims.{ItemHashesSmall}
 
@@ -110,6 +110,11 @@ pub record-small : (makes : Bool) (topic p : List ℕ) → All (λ (h : ℕ). h 
 unfolding recordHashes pick
 record-small true topic p = item-hashes-small topic p
 record-small false topic p = tt
+
+pub record-keys-few : (makes : Bool) (p : List ℕ) → 2 * length (recordKeys makes p) ≤ length p + 3
+unfolding recordKeys pick
+record-keys-few true p = items-few p
+record-keys-few false p = omega arith
 
 pub record-few : (makes : Bool) (topic p : List ℕ) → 2 * length (recordHashes makes topic p) ≤ length p + 3
 unfolding recordHashes itemHashes pick

@@ -1,6 +1,7 @@
 //! Document 01, "Directory".
 
 use crate::number::{length, little_endian, part, Whole};
+use crate::record::Message;
 use crate::sizes::{ENTRY_SIZE, MOST_QUEUES};
 
 /// One row: a consume queue's topic and queue id.
@@ -50,6 +51,13 @@ pub fn rows(directory: &[u8]) -> Option<Vec<Row<'_>>> {
         return None;
     }
     Some(rows)
+}
+
+/// The number of the row that lists a message's queue, from 0, or none where the queue is unlisted. No two rows name
+/// the same topic and id, so there is at most one.
+pub fn listed(rows: &[Row], message: &Message) -> Option<usize> {
+    rows.iter()
+        .position(|row| row.topic == message.topic && row.queue_id == Whole::from(message.queue_id))
 }
 
 /// Door check 3: "directory bad or not 1 to 16 rows, or queue buffer not rows × R × 20" is refused.

@@ -13,6 +13,7 @@ use crate::lister;
 use crate::number::{self, LogPosition, QueuePlace};
 use crate::properties;
 use crate::record::{self, Message};
+use crate::report;
 use crate::sizes::{IndexShape, LogShape};
 use crate::Answer;
 
@@ -253,6 +254,67 @@ impl Values {
     }
 }
 
+/// "Figures of the log from position to readable_end." "Rows that the directory does not have are 0."
+#[derive(Clone, Copy, Debug, Default, PartialEq, Eq)]
+pub struct Figures {
+    pub records: u64,
+    pub blanks: u64,
+    pub body_bytes: u64,
+    pub smallest: u64,
+    pub largest: u64,
+    /// "records of any type"
+    pub rows: [u64; 16],
+    pub unlisted: u64,
+    pub none: u64,
+    pub prepared: u64,
+    pub commit: u64,
+    pub rollback: u64,
+    pub items: u64,
+}
+
+impl Figures {
+    /// The members, in the header's order.
+    pub fn numbers(&self) -> [u64; 27] {
+        let mut numbers = [0; 27];
+        numbers[..5].copy_from_slice(&[
+            self.records,
+            self.blanks,
+            self.body_bytes,
+            self.smallest,
+            self.largest,
+        ]);
+        numbers[5..21].copy_from_slice(&self.rows);
+        numbers[21..].copy_from_slice(&[
+            self.unlisted,
+            self.none,
+            self.prepared,
+            self.commit,
+            self.rollback,
+            self.items,
+        ]);
+        numbers
+    }
+}
+
+impl From<report::Figures> for Figures {
+    fn from(figures: report::Figures) -> Figures {
+        Figures {
+            records: figures.records as u64,
+            blanks: figures.blanks as u64,
+            body_bytes: figures.body_bytes as u64,
+            smallest: figures.smallest as u64,
+            largest: figures.largest as u64,
+            rows: figures.rows.map(|records| records as u64),
+            unlisted: figures.unlisted as u64,
+            none: figures.none as u64,
+            prepared: figures.prepared as u64,
+            commit: figures.commit as u64,
+            rollback: figures.rollback as u64,
+            items: figures.items as u64,
+        }
+    }
+}
+
 /// "Append one record at *write_position."
 pub fn append(
     log: &mut [u8],
@@ -412,6 +474,22 @@ pub fn list(segment: &[u8], text: &mut [u8], written: &mut u64) -> u32 {
     text[..listing.text.len()].copy_from_slice(listing.text.as_bytes());
     *written = listing.text.len() as u64;
     listing.answer.number()
+}
+
+/// "The answer is 1, 3 or 2 with every figure 0, or the number that the report stopped with (0, 8, 10); a stop keeps the
+/// figures of what stands before it."
+pub fn report(
+    log: &[u8],
+    sizes: &Sizes,
+    position: u64,
+    readable_end: u64,
+    directory: &[u8],
+    figures: &mut Figures,
+) -> u32 {
+    let (p, e) = (LogPosition(position), LogPosition(readable_end));
+    let report = report::report(log, sizes.log_shape(), p, e, directory);
+    *figures = report.figures.into();
+    report.answer.number()
 }
 
 // "None of these has an answer: the number returned is the thing itself, 1 and 0 are yes and no."

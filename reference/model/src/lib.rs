@@ -15,6 +15,10 @@
 //! | The index | [`index_file`] (header, put, query), [`consume_queue`] (queue reading) |
 //! | Lister | [`lister`] |
 //!
+//! | Request of document 02 | Module |
+//! |---|---|
+//! | Item 1, a shift report | [`report`] |
+//!
 //! [`interface`] has the same operations, and six small functions that tell what a record makes, with the names, order
 //! and structs of the C interface (include/swistopal.h).
 
@@ -38,6 +42,8 @@ pub mod consume_queue;
 pub mod index_file;
 
 pub mod lister;
+
+pub mod report;
 
 pub mod interface;
 

@@ -6,7 +6,7 @@ use std::collections::BTreeSet;
 
 use common::random::{random_properties, random_store, trouble, Plan};
 use common::*;
-use model::interface::{self, Fields, Found, Progress, Sizes};
+use model::interface::{self, Fields, Figures, Found, Progress, Sizes};
 
 /// A number from the edges of the limits, or any.
 fn number(rng: &mut Rng) -> u64 {
@@ -353,6 +353,36 @@ fn queue_reading_answers_from_the_table() {
 }
 
 #[test]
+fn the_report_answers_from_the_table() {
+    let mut seen = BTreeSet::new();
+    for_seeds(4_000, |_, rng| {
+        let store = any_store(rng);
+        let sizes = mostly_sizes(rng, &store, OF_THE_LOG);
+        let good_p = if rng.one_in(2) {
+            sizes.first_position
+        } else {
+            sizes
+                .first_position
+                .wrapping_add(rng.below(store.log.len() as u64 + 1))
+        };
+        let p = mostly(rng, good_p);
+        let e = mostly(rng, store.readable_end);
+        let mut figures = Figures {
+            records: 7,
+            items: 7,
+            ..Figures::default()
+        };
+        let answer = interface::report(&store.log, &sizes, p, e, &store.directory, &mut figures);
+        seen.insert(answer);
+        match answer {
+            0 | 8 | 10 => assert!(92 * figures.records + 8 * figures.blanks <= e - p),
+            _ => assert_eq!(figures.numbers(), [0; 27]),
+        }
+    });
+    assert_eq!(seen, BTreeSet::from([0, 1, 2, 3, 8, 10]));
+}
+
+#[test]
 fn bytes_that_nobody_made() {
     // Short random buffers and any numbers, everywhere at once.
     for_seeds(20_000, |_, rng| {
@@ -377,6 +407,16 @@ fn bytes_that_nobody_made() {
         let (position, readable_end) = (numbers[2], numbers[3]);
         let a = interface::read_record(&buffers[0], &sizes, position, readable_end, &mut record);
         assert!(matches!(a, 0 | 1 | 2 | 8 | 10));
+        let mut figures = Figures::default();
+        let a = interface::report(
+            &buffers[0],
+            &sizes,
+            position,
+            readable_end,
+            &buffers[1],
+            &mut figures,
+        );
+        assert!(matches!(a, 0 | 1 | 2 | 3 | 8 | 10));
         let (log, rest) = buffers.split_at_mut(1);
         let (directory, rest) = rest.split_at_mut(1);
         let (queues, index) = rest.split_at_mut(1);
