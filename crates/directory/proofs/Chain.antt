@@ -11,7 +11,7 @@ use lib.Seq.{drop-drop}
 use borrow.Author.Tests.{ne-eqb}
 use Rattle.codec.specs.Choice.{pick}
 use Rattle.directory.specs.Directory.{Queue, rowLength, rowQueue, rowOk, before, rowsWithin}
-use Rattle.directory.specs.Inner.{madeOf, rowsOf, InRows, Sized}
+use Rattle.directory.specs.Inner.{rowsMade, rowsOf, InRows, Sized}
 use Rattle.codec.proofs.Choices.{held}
 use Rattle.directory.proofs.Reading.{begun}
 
@@ -75,7 +75,7 @@ rows-up m n bytes qs h e = let k : m - n + n ≡ m = omega arith in rw k at (go 
     go (suc d) = rw suc-add (rows-more (d + n) bytes qs (go d))
 
 pub rows-of : (bytes : List ℕ) (qs : List Queue) → rowsWithin 16 bytes ≡ some qs → rowsOf bytes ≡ qs
-unfolding rowsOf madeOf
+unfolding rowsOf rowsMade
 rows-of bytes qs e = rw e
 
 pub in-rows : (bytes : List ℕ) (qs : List Queue) → rowsWithin 16 bytes ≡ some qs → InRows bytes

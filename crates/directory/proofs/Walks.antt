@@ -8,11 +8,11 @@ use lib.ListN.{length, drop, drop-of-length-le}
 use Rattle.codec.specs.Choice.{pick}
 use Rattle.directory.specs.declared.Located.the-variants.{Unlisted, Row}
 use Rattle.directory.specs.Directory.{rowQueue, names, rowFrom}
-use Rattle.directory.specs.Inner.{madeOf, rowsOf, InRows, Sized}
+use Rattle.directory.specs.Inner.{rowsMade, rowsOf, InRows, Sized}
 use Rattle.directory.proofs.Chain.{rows-empty, next}
 
 rows-end : (l : List ℕ) (at : ℕ) → length l ≤ at → rowsOf (drop at l) ≡ []
-unfolding rowsOf madeOf
+unfolding rowsOf rowsMade
 rows-end l at h = rw (drop-of-length-le l h, rows-empty 16)
 
 pub record Seeking (l topic : List ℕ) (id place number : ℕ) : Type 0 where

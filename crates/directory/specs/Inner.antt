@@ -12,12 +12,12 @@ unfoldable pub rowSize : List ℕ → ℕ
 rowSize bytes = pick (rowOk bytes) (rowLength bytes) 0
 
 -- the queues of the rows that the bytes are made of
-unfoldable pub madeOf : Option (List Queue) → List Queue
-madeOf none = []
-madeOf (some qs) = qs
+unfoldable pub rowsMade : Option (List Queue) → List Queue
+rowsMade none = []
+rowsMade (some qs) = qs
 
 unfoldable pub rowsOf : List ℕ → List Queue
-rowsOf bytes = madeOf (rowsWithin 16 bytes)
+rowsOf bytes = rowsMade (rowsWithin 16 bytes)
 
 -- the bytes are made of at most 16 rows
 abbrev pub InRows : List ℕ → Type 0

@@ -17,7 +17,7 @@ use Rattle.dispatch_step.specs.Door.{Admitted}
 use Rattle.dispatch_step.proofs.StepKeeps.{Going, going-start, going-far}
 use Rattle.dispatch_ahead.specs.declared.Ended.the-variants as ends
 use Rattle.dispatch_ahead.specs.declared.Advanced.{Advanced}
-use Rattle.dispatch_ahead.specs.Ahead.{hashesOf, Ends, Advances}
+use Rattle.dispatch_ahead.specs.Ahead.{standsHashes, Ends, Advances}
 use Rattle.dispatch.specs.declared.Ran as told
 use Rattle.dispatch.specs.Inner.{Runs}
 
@@ -77,8 +77,8 @@ module _ (f : Fixed) (v : View) (s : State) (b n : ℕ) where
 
 module _ (f : Fixed) (v : View) where
   -- "properties 0 to 32,767": no record has more items than 16385
-  few : (s : State) (x : Stands) → standsHere f v s ≡ x → length (hashesOf x) ≤ 16385
-  unfolding hashesOf
+  few : (s : State) (x : Stands) → standsHere f v s ≡ x → length (standsHashes x) ≤ 16385
+  unfolding standsHashes
   few s (stop a) e = omega arith
   few s (blank n) e = omega arith
   few s (request q hs) e = hashes-few (f .directory) (f .sizes .geometry) v (s .progress .position) q hs e

@@ -7,7 +7,7 @@ use lib.ListN.{length}
 use Rattle.machine.specs.Steps.{moved, iterate, run}
 use Rattle.dispatch_request.specs.Request.{View}
 use Rattle.dispatch_step.specs.Step.{Fixed, State, stateOf, stepOf, standsHere}
-use Rattle.dispatch_ahead.specs.Ahead.{hashesOf}
+use Rattle.dispatch_ahead.specs.Ahead.{standsHashes}
 use Rattle.dispatch.specs.declared.Ran.{Ran}
 use Rattle.dispatch.specs.Dispatch.{ranOf}
 
@@ -16,4 +16,4 @@ pub record Runs (f : Fixed) (v : View) (b n : ℕ) (s : State) (r : Ran) (counts
   pub whole : r .ended ≡ true → ranOf (r .call) counts queues index ≡ run (stepOf f v) b s
   pub walked : r .ended ≡ false → iterate (stepOf f v) (r .call .steps) s ≡ moved (stateOf (r .call .progress) counts queues index)
   pub under : r .ended ≡ false → r .call .steps ≤ b
-  pub long : r .ended ≡ false → n < length (hashesOf (standsHere f v (stateOf (r .call .progress) counts queues index)))
+  pub long : r .ended ≡ false → n < length (standsHashes (standsHere f v (stateOf (r .call .progress) counts queues index)))

@@ -36,7 +36,7 @@ use Rattle.dispatch_ahead.specs.declared.Behind.{Behind}
 use Rattle.dispatch_ahead.specs.declared.Behind.the-variants as behinds
 use Rattle.dispatch_ahead.specs.declared.Ended.the-variants as ends
 use Rattle.dispatch_ahead.specs.declared.Advanced.{Advanced}
-use Rattle.dispatch_ahead.specs.Ahead.{requestAt, standsIn, standsTotal, hashesOf, behind, itemsBefore, BehindIs, Batched, passBy, Ends, Advances}
+use Rattle.dispatch_ahead.specs.Ahead.{requestAt, standsIn, standsTotal, standsHashes, behind, itemsBefore, BehindIs, Batched, passBy, Ends, Advances}
 use Rattle.dispatch_ahead.proofs.Reading.{items-grow}
 
 -- ---- the loop
@@ -79,7 +79,7 @@ good-kept z q hs s t l d e g =
 module _ (f : Fixed) (v : View) (p : LogPosition) (most : ℕ) (b : Batch) (requests list : List ℕ) (h : Batched f v p most b requests list) (good : Bool) (s t : State)
     (first done : ℕ) (a : Advancing f v p b list good most s t first done) (more : done < b .records) (q : DispatchRequest) (e : q ≡ requestAt requests done) where
   abbrev hs : List ℕ
-  hs = hashesOf (standsIn f v (behind f v p done))
+  hs = standsHashes (standsIn f v (behind f v p done))
 
   here : standsHere f v t ≡ request q hs
   here = rw (a .place, e) (h .kept done more .next)
@@ -191,7 +191,7 @@ module _ (f : Fixed) (v : View) (p : LogPosition) (most : ℕ) (b : Batch) (requ
       record { walked = g .walked; within = g .within; ends = λ (m : 0 < most). omega arith }
   passed-on behinds.Long e = go (eqb done 0) refl
     where
-      w : length list < b .items + length (hashesOf (standsIn f v (behind f v p (b .records))))
+      w : length list < b .items + length (standsHashes (standsIn f v (behind f v p (b .records))))
       w = subst (BehindIs (standsIn f v (behind f v p (b .records))) (b .items) (length list)) (sym e) (h .behind-is)
 
       none : (n : ℕ) → done ≡ n → n ≡ 0 → b .items ≡ 0

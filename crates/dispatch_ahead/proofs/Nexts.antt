@@ -13,11 +13,11 @@ use Rattle.dispatch_request.specs.declared.DispatchRequest.{DispatchRequest}
 use Rattle.dispatch_request.specs.declared.Next.the-variants.{Stop, Blank, Long, Request}
 use Rattle.dispatch_request.specs.Request.{Stands, stop, blank, request}
 use Rattle.dispatch_request.specs.Reading.{nextOf, InFront}
-use Rattle.dispatch_ahead.specs.Ahead.{hashesOf}
+use Rattle.dispatch_ahead.specs.Ahead.{standsHashes}
 
 module _ (n : ℕ) where
-  pub next-request : (x : Stands) (q : DispatchRequest) → nextOf n x ≡ Request q → (x ≡ request q (hashesOf x)) × (length (hashesOf x) ≤ n)
-  unfolding nextOf hashesOf pick
+  pub next-request : (x : Stands) (q : DispatchRequest) → nextOf n x ≡ Request q → (x ≡ request q (standsHashes x)) × (length (standsHashes x) ≤ n)
+  unfolding nextOf standsHashes pick
   next-request (stop a) q e = absurd (let z : _≡_ {A = ℕ} 0 1 = cc in omega arith)
   next-request (blank k) q e = absurd (let z : _≡_ {A = ℕ} 0 1 = cc in omega arith)
   next-request (request p hs) q e = go (leb (length hs) n) refl e
@@ -26,8 +26,8 @@ module _ (n : ℕ) where
       go true w h = let same : p ≡ q = cc in (ap (λ (x : DispatchRequest). request x hs) same, leb-true (length hs) n w)
       go false w h = absurd (let z : _≡_ {A = ℕ} 0 1 = cc in omega arith)
 
-  pub next-long : (x : Stands) → nextOf n x ≡ Long → n < length (hashesOf x)
-  unfolding nextOf hashesOf pick
+  pub next-long : (x : Stands) → nextOf n x ≡ Long → n < length (standsHashes x)
+  unfolding nextOf standsHashes pick
   next-long (stop a) e = absurd (let z : _≡_ {A = ℕ} 0 1 = cc in omega arith)
   next-long (blank k) e = absurd (let z : _≡_ {A = ℕ} 0 1 = cc in omega arith)
   next-long (request p hs) e = go (leb (length hs) n) refl e
@@ -57,8 +57,8 @@ module _ (n : ℕ) where
       go false h = let z : _≡_ {A = ℕ} 0 1 = cc in omega arith
 
 -- the hashes are in the list's front
-pub in-front : (x : Stands) (list : List ℕ) → InFront x list → length (hashesOf x) ≤ length list → take (length (hashesOf x)) list ≡ hashesOf x
-unfolding InFront hashesOf
+pub in-front : (x : Stands) (list : List ℕ) → InFront x list → length (standsHashes x) ≤ length list → take (length (standsHashes x)) list ≡ standsHashes x
+unfolding InFront standsHashes
 in-front (stop a) list h k = refl
 in-front (blank n) list h k = refl
 in-front (request q hs) list h k = h k

@@ -26,7 +26,7 @@ use Rattle.dispatch_step.specs.Step.{Fixed}
 use Rattle.dispatch_ahead.specs.declared.Batch.{Batch}
 use Rattle.dispatch_ahead.specs.declared.Behind.{Behind}
 use Rattle.dispatch_ahead.specs.declared.Behind.the-variants.{Unread, Stop, Blank, Long}
-use Rattle.dispatch_ahead.specs.Ahead.{requestAt, standsIn, standsTotal, hashesOf, behind, itemsBefore, Kept, BehindIs, Batched}
+use Rattle.dispatch_ahead.specs.Ahead.{requestAt, standsIn, standsTotal, standsHashes, behind, itemsBefore, Kept, BehindIs, Batched}
 use Rattle.dispatch_ahead.proofs.Nexts.{next-request, next-long, next-stop, next-blank, in-front}
 
 -- ---- what is kept
@@ -166,10 +166,10 @@ module _ (f : Fixed) (v : View) (p : LogPosition) (most : ℕ) (requests list : 
         -- a turn: the record that stands next is kept too
         module _ {q : DispatchRequest} (e : r ≡ next.Request q) (requests′ : List ℕ)
             (put : requestAt requests′ records ≡ q) (still : (i : ℕ) → i < records → requestAt requests′ i ≡ requestAt requests i) where
-          here : (standsIn f v (behind f v p records) ≡ request q (hashesOf (standsIn f v (behind f v p records)))) × (length (hashesOf (standsIn f v (behind f v p records))) ≤ length sub)
+          here : (standsIn f v (behind f v p records) ≡ request q (standsHashes (standsIn f v (behind f v p records)))) × (length (standsHashes (standsIn f v (behind f v p records))) ≤ length sub)
           here = next-request (length sub) (standsIn f v (behind f v p records)) q (stands e)
 
-          items-are : q .items ≡ length (hashesOf (standsIn f v (behind f v p records)))
+          items-are : q .items ≡ length (standsHashes (standsIn f v (behind f v p records)))
           items-are = items-counted (f .directory) (f .sizes .geometry) v (behind f v p records) q _ (here .0)
 
           pub items-fit : items + q .items ≤ length list
@@ -183,7 +183,7 @@ module _ (f : Fixed) (v : View) (p : LogPosition) (most : ℕ) (requests list : 
                 number = rw put items-are;
                 within = omega (arith, items-fit, items-are, g .counted, l .1);
                 listed =
-                    rw (put, items-are, ← g .counted, drop-at (take items list) (sub ++ drop (length list - items) (drop items list)) items (length-take-le items list (g .fits)), take-append-le (length (hashesOf (standsIn f v (behind f v p records)))) sub _ (here .1))
+                    rw (put, items-are, ← g .counted, drop-at (take items list) (sub ++ drop (length list - items) (drop items list)) items (length-take-le items list (g .fits)), take-append-le (length (standsHashes (standsIn f v (behind f v p records)))) sub _ (here .1))
                     (in-front (standsIn f v (behind f v p records)) sub (rw (← g .place) (n .listed)) (here .1));
               }
 

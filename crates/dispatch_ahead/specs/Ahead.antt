@@ -45,10 +45,10 @@ standsTotal (stop a) = 0
 standsTotal (blank n) = 0
 standsTotal (request q hs) = q .total
 
-unfoldable pub hashesOf : Stands → List ℕ
-hashesOf (stop a) = []
-hashesOf (blank n) = []
-hashesOf (request q hs) = hs
+unfoldable pub standsHashes : Stands → List ℕ
+standsHashes (stop a) = []
+standsHashes (blank n) = []
+standsHashes (request q hs) = hs
 
 -- the position behind the first i of them
 unfoldable pub behind : Fixed → View → LogPosition → ℕ → LogPosition
@@ -58,21 +58,21 @@ behind f v p (suc i) = record { 0 = behind f v p i .0 + standsTotal (standsIn f 
 -- and the number of their items
 unfoldable pub itemsBefore : Fixed → View → LogPosition → ℕ → ℕ
 itemsBefore f v p zero = 0
-itemsBefore f v p (suc i) = itemsBefore f v p i + length (hashesOf (standsIn f v (behind f v p i)))
+itemsBefore f v p (suc i) = itemsBefore f v p i + length (standsHashes (standsIn f v (behind f v p i)))
 
 -- record i is kept as request i, its hashes behind those of the records before it
 pub record Kept (f : Fixed) (v : View) (p : LogPosition) (requests list : List ℕ) (i : ℕ) : Type 0 where
-  pub next : standsIn f v (behind f v p i) ≡ request (requestAt requests i) (hashesOf (standsIn f v (behind f v p i)))
-  pub number : requestAt requests i .items ≡ length (hashesOf (standsIn f v (behind f v p i)))
+  pub next : standsIn f v (behind f v p i) ≡ request (requestAt requests i) (standsHashes (standsIn f v (behind f v p i)))
+  pub number : requestAt requests i .items ≡ length (standsHashes (standsIn f v (behind f v p i)))
   pub within : itemsBefore f v p (suc i) ≤ length list
-  pub listed : part (requestAt requests i .items) (itemsBefore f v p i) list ≡ hashesOf (standsIn f v (behind f v p i))
+  pub listed : part (requestAt requests i .items) (itemsBefore f v p i) list ≡ standsHashes (standsIn f v (behind f v p i))
 
 -- what stands behind the records of a batch, of a list of n places of which `items` are taken
 unfoldable pub BehindIs : Stands → ℕ → ℕ → Behind → Type 0
 BehindIs x items n Unread = Unit {0}
 BehindIs x items n (Stop a) = x ≡ stop a
 BehindIs x items n (Blank k) = x ≡ blank k
-BehindIs x items n Long = n < items + length (hashesOf x)
+BehindIs x items n Long = n < items + length (standsHashes x)
 
 -- what was read ahead from p on
 pub record Batched (f : Fixed) (v : View) (p : LogPosition) (most : ℕ) (r : Batch) (requests list : List ℕ) : Type 0 where
@@ -99,7 +99,7 @@ passBy p k Long = pick (eqb k 0) (record { progress = p; steps = k; ended = ende
 unfoldable pub Ends : Fixed → View → ℕ → ℕ → ℕ → State → Ended → Type 0
 Ends f v most n steps t Going = 0 < most → 0 < steps
 Ends f v most n steps t (Stopped a) = (steps < most) × (stepOf f v t ≡ stopped a)
-Ends f v most n steps t ended.Long = n < length (hashesOf (standsIn f v (t .progress .position)))
+Ends f v most n steps t ended.Long = n < length (standsHashes (standsIn f v (t .progress .position)))
 
 -- so many steps of the rules lead from s to t, and it ends as it says
 pub record Advances (f : Fixed) (v : View) (most n : ℕ) (s : State) (r : Advanced) (t : State) : Type 0 where

@@ -9,26 +9,26 @@ use Rattle.dispatch.specs.Dispatch.{dispatcher}
 use Rattle.dispatch_laws.proofs.Demand3.{demand-3}
 use Rattle.dispatch_laws.proofs.Built.{query-after-calls}
 use Rattle.swistopal.specs.Interface.{Lent, stateIn, Dispatch, dispatchGives, Dispatches}
-use Rattle.interface_laws.specs.Calls.{DispatchReport, callOf, Calls, reports, stepsReported, lastLeft, AnswersAre}
+use Rattle.interface_laws.specs.Calls.{DispatchReport, linkedCall, Calls, reports, stepsReported, lastLeft, AnswersAre}
 use Rattle.interface_laws.specs.Claims.{CallsAre, LinkedDemand3, LinkedQuery}
 use Rattle.interface_laws.proofs.Counts.{lent-counted, there-and-back, call-counted}
 
 -- ---- a call
 
-module _ (r : DispatchReport) (l : Lent) (did : Dispatches (callOf (r .passed)) l (r .answer) (r .steps) (r .left)) where
-  answer-is : r .answer ≡ numberOf (call dispatcher (callOf (r .passed)) (stateIn l) .answer)
+module _ (r : DispatchReport) (l : Lent) (did : Dispatches (linkedCall (r .passed)) l (r .answer) (r .steps) (r .left)) where
+  answer-is : r .answer ≡ numberOf (call dispatcher (linkedCall (r .passed)) (stateIn l) .answer)
   unfolding dispatchGives
   answer-is = ap (λ (d : Dispatch). d .answer) did
 
-  steps-are : r .steps ≡ call dispatcher (callOf (r .passed)) (stateIn l) .steps
+  steps-are : r .steps ≡ call dispatcher (linkedCall (r .passed)) (stateIn l) .steps
   unfolding dispatchGives
   steps-are = ap (λ (d : Dispatch). d .steps) did
 
   -- what it left is the state that the definition's call leaves
-  left-is : stateIn (r .left) ≡ call dispatcher (callOf (r .passed)) (stateIn l) .state
+  left-is : stateIn (r .left) ≡ call dispatcher (linkedCall (r .passed)) (stateIn l) .state
   unfolding dispatchGives
   left-is =
-      let c = callOf (r .passed) in
+      let c = linkedCall (r .passed) in
       ap (λ (d : Dispatch). stateIn (d .left)) did
       ∙ there-and-back (call dispatcher c (stateIn l) .state) (call-counted c (stateIn l) (lent-counted l))
 

@@ -86,6 +86,7 @@ impl Answer {
         }
     }
 
+    // The way back, for whoever is given a number; no function of the store asks for it.
     pub fn of_number(number: u32) -> Numbered
         ensures { λ r. ⌜ r ≡ answerOf number ⌝ }
     {
