@@ -11,7 +11,7 @@ use Rattle.machine.specs.Steps.{moved, stopped, iterate}
 use Rattle.dispatch_request.specs.declared.DispatchRequest.{DispatchRequest}
 use Rattle.dispatch_request.specs.Request.{View, Stands, stop, blank, request, standsAt}
 use Rattle.dispatch_step.specs.declared.Progress.{Progress}
-use Rattle.dispatch_step.specs.Step.{Fixed, State, onBy, stepOf}
+use Rattle.dispatch_step.specs.Step.{Fixed, State, stateOf, onBy, stepOf}
 use Rattle.dispatch_ahead.specs.declared.Batch.{Batch}
 use Rattle.dispatch_ahead.specs.declared.Behind.{Behind}
 use Rattle.dispatch_ahead.specs.declared.Behind.the-variants.{Unread, Stop, Blank, Long}
@@ -106,3 +106,7 @@ pub record Advances (f : Fixed) (v : View) (most n : ℕ) (s : State) (r : Advan
   pub walked : iterate (stepOf f v) (r .steps) s ≡ moved t
   pub within : r .steps ≤ most
   pub ends : Ends f v most n (r .steps) t (r .ended)
+
+-- the same by what an advance returns and the bytes that it leaves
+abbrev pub AdvancesTo : Fixed → View → ℕ → ℕ → State → Advanced → List ℕ → List ℕ → List ℕ → Type 0
+AdvancesTo f v most n s r counts queues index = Advances f v most n s r (stateOf (r .progress) counts queues index)

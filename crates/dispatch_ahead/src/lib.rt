@@ -8,7 +8,7 @@ ghost use Rattle.dispatch_request.specs.Request.{viewOf};
 ghost use Rattle.dispatch_request.specs.Reading.{Listed};
 ghost use Rattle.dispatch_step.specs.Step.{fixedOf, stateOf};
 ghost use Rattle.dispatch_step.specs.Door.{Admitted};
-ghost use Rattle.dispatch_ahead.specs.Ahead.{requestAt, Batched, passBy, Advances};
+ghost use Rattle.dispatch_ahead.specs.Ahead.{requestAt, Batched, passBy, AdvancesTo};
 ghost use Rattle.dispatch_ahead.specs.declared.Behind.the-variants.{Blank};
 use dispatch_request::DispatchRequest;
 use dispatch_request::Next;
@@ -209,7 +209,7 @@ pub fn advance(
     list: &mut [u32],
 ) -> Advanced
     requires { ⌜ Admitted (fixedOf sizes (now directory)) (viewOf (now log) «readable_end») (stateOf progress (now counts) (now queues) (now index)) × (0 < length (now list)) × (length (now list) ≤ 16385) ⌝ }
-    ensures { λ r. ⌜ Advances (fixedOf sizes (now (directory .entry))) (viewOf (now (log .entry)) «readable_end») most (length (now (list .entry))) (stateOf progress (now (counts .entry)) (now (queues .entry)) (now (index .entry))) r (stateOf (r .progress) (now (counts .exit)) (now (queues .exit)) (now (index .exit))) ⌝ }
+    ensures { λ r. ⌜ AdvancesTo (fixedOf sizes (now (directory .entry))) (viewOf (now (log .entry)) «readable_end») most (length (now (list .entry))) (stateOf progress (now (counts .entry)) (now (queues .entry)) (now (index .entry))) r (now (counts .exit)) (now (queues .exit)) (now (index .exit)) ⌝ }
 {
     let position = progress.position;
     let read = read_ahead(
