@@ -53,13 +53,13 @@ fields =
     }
 
 -- no body, topic T, and hosts of zeros
-abbrev pub parts : List ℕ → RecordParts
-parts properties = partsOf (replicate 8 0) (replicate 8 0) [] (84 ∷ []) properties
+abbrev pub benchParts : List ℕ → RecordParts
+benchParts properties = partsOf (replicate 8 0) (replicate 8 0) [] (84 ∷ []) properties
 
 -- the answer's number and the write position, of topic T and these properties: 92 bytes and one for each of theirs
 abbrev pub appendedAt924 : List ℕ → List ℕ
 appendedAt924 properties =
-    let made = appended (replicate 2048 0) (record { «segment_size» = 1024; «first_position» = record { 0 = 0 } }) (record { 0 = 924 }) fields (parts properties) .made in
+    let made = appended (replicate 2048 0) (record { «segment_size» = 1024; «first_position» = record { 0 = 0 } }) (record { 0 = 924 }) fields (benchParts properties) .made in
     numberOf (made .answer) ∷ made .«write_position» .0 ∷ []
 
 -- ---- an index of 2 slots and 4 items
@@ -101,7 +101,7 @@ sent offset properties o =
       «store_time» = 10000;
       «reconsume_times» = 0;
       «prepared_offset» = 0;
-    }) (parts properties)
+    }) (benchParts properties)
 
 abbrev pub empty : AppendOutcome
 empty = appendOutcome Done (record { 0 = 0 }) (replicate 1024 0)

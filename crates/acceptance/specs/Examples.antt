@@ -25,8 +25,8 @@ shownFound (Many p) = 2 ∷ p .at ∷ p .len ∷ []
 abbrev pub keysFound : List ℕ → List ℕ
 keysFound properties = shownFound (finder keysName properties)
 
-abbrev pub keysIn : List ℕ → List ℕ
-keysIn properties = length (keyPlaces (foundBytes (finder keysName properties) properties)) ∷ []
+abbrev pub keysCounted : List ℕ → List ℕ
+keysCounted properties = length (keyPlaces (foundBytes (finder keysName properties) properties)) ∷ []
 
 unfoldable pub property-examples : List Row
 property-examples =
@@ -39,14 +39,14 @@ property-examples =
     ∷ record { given = keysFound (keys (97 ∷ 2 ∷ keys [])); wanted = 1 ∷ 5 ∷ 1 ∷ [] }
     -- the last pair counts, also where it makes no key
     ∷ record { given = keysFound (keys (97 ∷ 2 ∷ keys (98 ∷ []))); wanted = 2 ∷ 12 ∷ 1 ∷ [] }
-    ∷ record { given = keysIn (keys (97 ∷ 2 ∷ keys (32 ∷ 32 ∷ []))); wanted = 0 ∷ [] }
+    ∷ record { given = keysCounted (keys (97 ∷ 2 ∷ keys (32 ∷ 32 ∷ []))); wanted = 0 ∷ [] }
     -- separators only; `KEYSX`, ` KEYS`, `keys`
     ∷ record { given = keysFound (2 ∷ 2 ∷ []); wanted = 0 ∷ [] }
     ∷ record { given = keysFound (75 ∷ 69 ∷ 89 ∷ 83 ∷ 88 ∷ 1 ∷ 97 ∷ []); wanted = 0 ∷ [] }
     ∷ record { given = keysFound (32 ∷ keys (97 ∷ [])); wanted = 0 ∷ [] }
     ∷ record { given = keysFound (107 ∷ 101 ∷ 121 ∷ 115 ∷ 1 ∷ 97 ∷ []); wanted = 0 ∷ [] }
     -- KEYS `a  a`: two keys, the repeat kept
-    ∷ record { given = keysIn (keys (97 ∷ 32 ∷ 32 ∷ 97 ∷ [])); wanted = 2 ∷ [] }
+    ∷ record { given = keysCounted (keys (97 ∷ 32 ∷ 32 ∷ 97 ∷ [])); wanted = 2 ∷ [] }
     ∷ []
 
 -- topic T: keys a, b, c; `Aa` and `BB`; `1LG3HE3`, whose hash is the least number; topic `T#a` key b against topic T key `a#b`
@@ -71,36 +71,36 @@ abbrev pub shownRows : List ℕ → List ℕ
 shownRows directory = shownListing (rowCount directory)
 
 -- a row of this kind, id and topic
-abbrev pub row : ℕ → ℕ → List ℕ → List ℕ
-row kind id topic = bytesOf little 2 (8 + length topic) ++ bytesOf little 2 kind ++ bytesOf little 4 id ++ topic
+abbrev pub directoryRow : ℕ → ℕ → List ℕ → List ℕ
+directoryRow kind id topic = bytesOf little 2 (8 + length topic) ++ bytesOf little 2 kind ++ bytesOf little 4 id ++ topic
 
 -- n rows of topic T, the ids from 0
 unfoldable pub rows : ℕ → List ℕ
 rows zero = []
-rows (suc n) = row 1 n (84 ∷ []) ++ rows n
+rows (suc n) = directoryRow 1 n (84 ∷ []) ++ rows n
 
 unfoldable pub directory-examples : List Row
 directory-examples =
     -- an empty buffer; no topic; topics of 127 and 128 bytes; a byte left over
     record { given = shownRows []; wanted = 0 ∷ [] }
-    ∷ record { given = shownRows (row 1 0 []); wanted = 0 ∷ [] }
-    ∷ record { given = shownRows (row 1 0 (replicate 127 84)); wanted = 1 ∷ 1 ∷ [] }
-    ∷ record { given = shownRows (row 1 0 (replicate 128 84)); wanted = 0 ∷ [] }
-    ∷ record { given = shownRows (row 1 0 (84 ∷ []) ++ 9 ∷ []); wanted = 0 ∷ [] }
+    ∷ record { given = shownRows (directoryRow 1 0 []); wanted = 0 ∷ [] }
+    ∷ record { given = shownRows (directoryRow 1 0 (replicate 127 84)); wanted = 1 ∷ 1 ∷ [] }
+    ∷ record { given = shownRows (directoryRow 1 0 (replicate 128 84)); wanted = 0 ∷ [] }
+    ∷ record { given = shownRows (directoryRow 1 0 (84 ∷ []) ++ 9 ∷ []); wanted = 0 ∷ [] }
     -- 16 rows and 17
     ∷ record { given = shownRows (rows 16); wanted = 1 ∷ 16 ∷ [] }
     ∷ record { given = shownRows (rows 17); wanted = 0 ∷ [] }
     -- ids 2^31 − 1 and 2^31; kinds 2 and 256
-    ∷ record { given = shownRows (row 1 2147483647 (84 ∷ [])); wanted = 1 ∷ 1 ∷ [] }
-    ∷ record { given = shownRows (row 1 2147483648 (84 ∷ [])); wanted = 0 ∷ [] }
-    ∷ record { given = shownRows (row 2 0 (84 ∷ [])); wanted = 0 ∷ [] }
-    ∷ record { given = shownRows (row 256 0 (84 ∷ [])); wanted = 0 ∷ [] }
+    ∷ record { given = shownRows (directoryRow 1 2147483647 (84 ∷ [])); wanted = 1 ∷ 1 ∷ [] }
+    ∷ record { given = shownRows (directoryRow 1 2147483648 (84 ∷ [])); wanted = 0 ∷ [] }
+    ∷ record { given = shownRows (directoryRow 2 0 (84 ∷ [])); wanted = 0 ∷ [] }
+    ∷ record { given = shownRows (directoryRow 256 0 (84 ∷ [])); wanted = 0 ∷ [] }
     -- the same topic with another id, and the same id with another topic; the same twice, a row between
-    ∷ record { given = shownRows (row 1 0 (84 ∷ []) ++ row 1 1 (84 ∷ []) ++ row 1 0 (85 ∷ [])); wanted = 1 ∷ 3 ∷ [] }
-    ∷ record { given = shownRows (row 1 0 (84 ∷ []) ++ row 1 1 (84 ∷ []) ++ row 1 0 (84 ∷ [])); wanted = 0 ∷ [] }
+    ∷ record { given = shownRows (directoryRow 1 0 (84 ∷ []) ++ directoryRow 1 1 (84 ∷ []) ++ directoryRow 1 0 (85 ∷ [])); wanted = 1 ∷ 3 ∷ [] }
+    ∷ record { given = shownRows (directoryRow 1 0 (84 ∷ []) ++ directoryRow 1 1 (84 ∷ []) ++ directoryRow 1 0 (84 ∷ [])); wanted = 0 ∷ [] }
     -- rows are numbered from 0
-    ∷ record { given = shownRow (rowOf (84 ∷ []) 1 (row 1 0 (84 ∷ []) ++ row 1 1 (84 ∷ []))); wanted = 1 ∷ 1 ∷ [] }
-    ∷ record { given = shownRow (rowOf (85 ∷ []) 1 (row 1 0 (84 ∷ []) ++ row 1 1 (84 ∷ []))); wanted = 0 ∷ [] }
+    ∷ record { given = shownRow (rowOf (84 ∷ []) 1 (directoryRow 1 0 (84 ∷ []) ++ directoryRow 1 1 (84 ∷ []))); wanted = 1 ∷ 1 ∷ [] }
+    ∷ record { given = shownRow (rowOf (85 ∷ []) 1 (directoryRow 1 0 (84 ∷ []) ++ directoryRow 1 1 (84 ∷ []))); wanted = 0 ∷ [] }
     ∷ []
 
 unfoldable pub examples : List Row

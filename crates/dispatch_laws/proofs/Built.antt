@@ -18,7 +18,7 @@ use Rattle.index_file.proofs.Items.{checked-room}
 use Rattle.index_laws.proofs.History.{fresh-empty, fresh-one, built-holds, put-built, filed-built, rising-times}
 use Rattle.index_laws.proofs.Exact.{query-exact}
 use Rattle.machine.specs.Steps.{Outcome, moved, stopped, andThen, iterate, run}
-use Rattle.machine.specs.Calls.{accepted, total, final, Leads}
+use Rattle.machine.specs.Calls.{accepted, stepsInAll, final, Leads}
 use Rattle.machine.proofs.Steps.{moved-inj, never, run-stops}
 use Rattle.machine.proofs.Lists.{call-accepted}
 use Rattle.dispatch_step.specs.declared.Sizes.{Sizes}
@@ -123,10 +123,10 @@ query-after-calls rs s chain steady d l z rise topic key first last wanted out q
     let v = d .view in
     let t = accepted-at dispatcher rs s d l in
     let o = opened f v (t .0) (t .1) in
-    let w = walk-stands f v (end-small f v (t .0) (t .1)) (s .index) (total dispatcher rs) s (final dispatcher rs s) []
+    let w = walk-stands f v (end-small f v (t .0) (t .1)) (s .index) (stepsInAll dispatcher rs) s (final dispatcher rs s) []
     (record { built = built-none _ _ (length (t .0 .index)) (s .index) (index-sizes (f .sizes) _ _ (o .sized)) z; is = refl })
     (rw l at (demand-3 rs s chain steady .whole)) in
-    rw (w .is) (query-exact _ _ (s .index) (puts f v (total dispatcher rs) s []) (w .built) rise topic key first last wanted out q)
+    rw (w .is) (query-exact _ _ (s .index) (puts f v (stepsInAll dispatcher rs) s []) (w .built) rise topic key first last wanted out q)
 
 pub query-after-rising-times : QueryAfterRisingTimes
 query-after-rising-times rs s chain steady d l z rise = query-after-calls rs s chain steady d l z (rising-times _ _ rise)

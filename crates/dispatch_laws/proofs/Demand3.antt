@@ -4,7 +4,7 @@ use mathlib.Core.Path.{_≡_, refl, subst}
 use mathlib.Core.List.{List, [], _∷_}
 use mathlib.Core.Option.{Option, none, some}
 use native.Mathlib.Omega.{arith}
-use Rattle.machine.specs.Calls.{Door, accepted, refused, Machine, Call, keepIf, latest, doorAt, Report, Chain, total, final, passed, Steady, Leads}
+use Rattle.machine.specs.Calls.{Door, accepted, refused, Machine, Call, keepIf, latest, doorAt, Report, Chain, stepsInAll, final, passed, Steady, Leads}
 use Rattle.machine.specs.Claims.{Laws, Climbs}
 use Rattle.machine.proofs.Lists.{resumes, bounded}
 use Rattle.dispatch_request.specs.Request.{View}
@@ -60,12 +60,12 @@ accepted-at M (r ∷ rs) s d e = go (doorAt M (r .made) s) refl (passed M rs (r 
     go accepted h (c ∷ cs) ih e = ih e
 
 -- so its readable end, and with it the number of all steps, is at most 2^40
-steps-few : (rs : List (Report dispatcher)) (s : State) → Chain dispatcher rs s → Steady dispatcher rs s → total dispatcher rs ≤ 1099511627776
+steps-few : (rs : List (Report dispatcher)) (s : State) → Chain dispatcher rs s → Steady dispatcher rs s → stepsInAll dispatcher rs ≤ 1099511627776
 unfolding Leads climbs
 steps-few rs s k h = go (latest (passed dispatcher rs s)) refl (demand-3 rs s k h .whole)
   where
-    go : (o : Option (Call dispatcher)) → latest (passed dispatcher rs s) ≡ o → Leads dispatcher o (total dispatcher rs) s (final dispatcher rs s) →
-        total dispatcher rs ≤ 1099511627776
+    go : (o : Option (Call dispatcher)) → latest (passed dispatcher rs s) ≡ o → Leads dispatcher o (stepsInAll dispatcher rs) s (final dispatcher rs s) →
+        stepsInAll dispatcher rs ≤ 1099511627776
     go none e w = omega (arith, w .0)
     go (some d) e w =
         let t = accepted-at dispatcher rs s d e in

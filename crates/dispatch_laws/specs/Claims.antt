@@ -12,7 +12,7 @@ use Rattle.index_laws.specs.History.{Empty, Put, build, items, SecondsRise, Tim
 use Rattle.index_laws.specs.Claims.{Built}
 use Rattle.index_query.specs.Claims.{Finds}
 use Rattle.machine.specs.Steps.{stopped}
-use Rattle.machine.specs.Calls.{accepted, Call, doorAt, call, Report, Chain, total, final, passed, Steady, latest}
+use Rattle.machine.specs.Calls.{accepted, Call, doorAt, call, Report, Chain, stepsInAll, final, passed, Steady, latest}
 use Rattle.machine.specs.Claims.{Resumed}
 use Rattle.dispatch_request.specs.Request.{View}
 use Rattle.dispatch_step.specs.Step.{Fixed, State, stepOf}
@@ -25,7 +25,7 @@ Demand3 = (rs : List (Report dispatcher)) (s : State) → Chain dispatcher rs s 
 
 -- "a budget above n": there is one from 0 to 2^64−1
 abbrev pub BudgetAbove : Type 0
-BudgetAbove = (rs : List (Report dispatcher)) (s : State) → Chain dispatcher rs s → Steady dispatcher rs s → total dispatcher rs < 18446744073709551615
+BudgetAbove = (rs : List (Report dispatcher)) (s : State) → Chain dispatcher rs s → Steady dispatcher rs s → stepsInAll dispatcher rs < 18446744073709551615
 
 -- "any cause but a spent budget": no rule gives 9
 abbrev pub NeverSpent : Type 0
@@ -50,7 +50,7 @@ QueryAfterCalls =
     → (d : Call dispatcher) → latest (passed dispatcher rs s) ≡ some d
     → let k = d .fixed .sizes .index .«slot_count» in
     let n = d .fixed .sizes .index .«item_count» in
-    let ps = puts (d .fixed) (d .view) (total dispatcher rs) s [] in
+    let ps = puts (d .fixed) (d .view) (stepsInAll dispatcher rs) s [] in
     Empty k n (s .index) → SecondsRise (items k ps)
     → (topic key : List ℕ) (first last wanted : ℕ) (out : List ℕ)
     → queryOk (length topic) (length key) first last (wantedOf wanted) (length out) ≡ true
@@ -63,7 +63,7 @@ QueryAfterRisingTimes =
     → (d : Call dispatcher) → latest (passed dispatcher rs s) ≡ some d
     → let k = d .fixed .sizes .index .«slot_count» in
     let n = d .fixed .sizes .index .«item_count» in
-    let ps = puts (d .fixed) (d .view) (total dispatcher rs) s [] in
+    let ps = puts (d .fixed) (d .view) (stepsInAll dispatcher rs) s [] in
     Empty k n (s .index) → TimesRise ps
     → (topic key : List ℕ) (first last wanted : ℕ) (out : List ℕ)
     → queryOk (length topic) (length key) first last (wantedOf wanted) (length out) ≡ true

@@ -1,7 +1,7 @@
 -- The items that steps put, newest first. Assumes nothing.
 use Prim.Native.Nat.{ℕ, zero, suc}
 use mathlib.Core.List.{List}
-use Rattle.index_laws.specs.History.{Put, filed}
+use Rattle.index_laws.specs.History.{Put, itemPuts}
 use Rattle.machine.specs.Steps.{Outcome, moved, stopped}
 use Rattle.dispatch_request.specs.Request.{View, Stands, stop, blank, request}
 use Rattle.dispatch_step.specs.Step.{Fixed, State, positionOf, standsHere, stepOf}
@@ -10,7 +10,7 @@ use Rattle.dispatch_step.specs.Step.{Fixed, State, positionOf, standsHere, step
 unfoldable pub putBy : State → Stands → List Put → List Put
 putBy s (stop a) ps = ps
 putBy s (blank n) ps = ps
-putBy s (request q hs) ps = filed (positionOf s) (q .«store_time») hs ps
+putBy s (request q hs) ps = itemPuts (positionOf s) (q .«store_time») hs ps
 
 -- after a step that is done, what `next` gives from there
 unfoldable pub onward : Outcome State → List Put → (State → List Put) → List Put

@@ -18,7 +18,7 @@ use Rattle.java_hash.proofs.HashLaws.{slot-within}
 use Rattle.index_file.specs.declared.Item.{Item}
 use Rattle.index_file.specs.Index.{usedCount, firstTime, untouched, slotValue, itemOf, secondsOf, itemFor, filledAfter, put}
 use Rattle.index_file.specs.Items.{putAll}
-use Rattle.index_laws.specs.History.{zeros, zerosAndOne, Empty, Fresh, Put, build, Fit, oldest, newest, items, filed}
+use Rattle.index_laws.specs.History.{zeros, zerosAndOne, Empty, Fresh, Put, build, Fit, oldest, newest, items, itemPuts}
 use Rattle.index_file.specs.Room.{Room}
 use Rattle.index_laws.specs.Claims.{Built, RisingTimes, BuiltCount, PutSound, PutAllSound, FreshEmpty, FreshOne, PutBuilt, FiledBuilt}
 use Rattle.index_query.proofs.Walks.{undamaged}
@@ -216,28 +216,28 @@ pub built-count : BuiltCount
 built-count k n l ps b = built-holds k n l ps b .count
 
 pub put-built : PutBuilt
-unfolding putAll build filed
+unfolding putAll build itemPuts
 put-built k position time [] l ps = refl
 put-built k position time (h ∷ hs) l ps = put-built k position time hs l (record { hash = h; position = position; time = time } ∷ ps)
 
-length-filed : (position time : ℕ) (hs : List ℕ) (ps : List Put) → length (filed position time hs ps) ≡ length hs + length ps
-unfolding filed
-length-filed position time [] ps = omega arith
-length-filed position time (h ∷ hs) ps = length-filed position time hs (record { hash = h; position = position; time = time } ∷ ps) ∙ omega arith
+length-item-puts : (position time : ℕ) (hs : List ℕ) (ps : List Put) → length (itemPuts position time hs ps) ≡ length hs + length ps
+unfolding itemPuts
+length-item-puts position time [] ps = omega arith
+length-item-puts position time (h ∷ hs) ps = length-item-puts position time hs (record { hash = h; position = position; time = time } ∷ ps) ∙ omega arith
 
-fit-filed : (position time : ℕ) (hs : List ℕ) (ps : List Put) → Fit ps → All (λ (h : ℕ). h < 2147483648) hs → position ≤ 1099511627776 → time ≤ 281474976710655
-    → Fit (filed position time hs ps)
-unfolding filed
-fit-filed position time [] ps f a hp ht = f
-fit-filed position time (h ∷ hs) ps f a hp ht = fit-filed position time hs (record { hash = h; position = position; time = time } ∷ ps) (a .0, hp, ht, f) (a .1) hp ht
+fit-item-puts : (position time : ℕ) (hs : List ℕ) (ps : List Put) → Fit ps → All (λ (h : ℕ). h < 2147483648) hs → position ≤ 1099511627776 → time ≤ 281474976710655
+    → Fit (itemPuts position time hs ps)
+unfolding itemPuts
+fit-item-puts position time [] ps f a hp ht = f
+fit-item-puts position time (h ∷ hs) ps f a hp ht = fit-item-puts position time hs (record { hash = h; position = position; time = time } ∷ ps) (a .0, hp, ht, f) (a .1) hp ht
 
 pub filed-built : FiledBuilt
 filed-built k n l ps position time hs b r a hp ht =
     record {
       sizes = b .sizes;
       empty = b .empty;
-      room = rw (length-filed position time hs ps) (let c = built-count k n l ps b in let d = r .count in omega arith);
-      fit = fit-filed position time hs ps (b .fit) a hp ht;
+      room = rw (length-item-puts position time hs ps) (let c = built-count k n l ps b in let d = r .count in omega arith);
+      fit = fit-item-puts position time hs ps (b .fit) a hp ht;
     }
 
 -- ---- times

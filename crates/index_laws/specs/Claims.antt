@@ -11,7 +11,7 @@ use Rattle.index_file.specs.Items.{putAll}
 use Rattle.index_file.specs.Room.{Room}
 use Rattle.index_query.specs.Query.{wantedOf, queryOk, queried}
 use Rattle.index_query.specs.Claims.{Finds}
-use Rattle.index_laws.specs.History.{zeros, zerosAndOne, Empty, Fresh, Put, build, Fit, inSlot, items, SecondsRise, TimesRise, keep, matches, chain, downFrom, filed}
+use Rattle.index_laws.specs.History.{zeros, zerosAndOne, Empty, Fresh, Put, build, Fit, inSlot, items, SecondsRise, TimesRise, keep, matches, chain, downFrom, itemPuts}
 
 -- an index that puts within their limits, of which there is room, have built from empty
 pub record Built (k n : ℕ) (index : List ℕ) (ps : List Put) : Type 0 where
@@ -70,9 +70,9 @@ FreshOne = (k n : ℕ) → Fresh k n (zerosAndOne k n)
 
 -- a record's items, put into an index that was built, give one that is built
 abbrev pub PutBuilt : Type 0
-PutBuilt = (k position time : ℕ) (hs index : List ℕ) (ps : List Put) → putAll k position time hs (build k index ps) ≡ build k index (filed position time hs ps)
+PutBuilt = (k position time : ℕ) (hs index : List ℕ) (ps : List Put) → putAll k position time hs (build k index ps) ≡ build k index (itemPuts position time hs ps)
 
 abbrev pub FiledBuilt : Type 0
 FiledBuilt =
     (k n : ℕ) (index : List ℕ) (ps : List Put) (position time : ℕ) (hs : List ℕ) → Built k n index ps → Room k n (build k index ps) (length hs)
-    → All (λ (h : ℕ). h < 2147483648) hs → position ≤ 1099511627776 → time ≤ 281474976710655 → Built k n index (filed position time hs ps)
+    → All (λ (h : ℕ). h < 2147483648) hs → position ≤ 1099511627776 → time ≤ 281474976710655 → Built k n index (itemPuts position time hs ps)

@@ -111,6 +111,6 @@ downFrom zero = []
 downFrom (suc n) = suc n ∷ downFrom n
 
 -- the history with one record's items, of these hashes
-unfoldable pub filed : ℕ → ℕ → List ℕ → List Put → List Put
-filed position time [] ps = ps
-filed position time (h ∷ hs) ps = filed position time hs (record { hash = h; position = position; time = time } ∷ ps)
+unfoldable pub itemPuts : ℕ → ℕ → List ℕ → List Put → List Put
+itemPuts position time [] ps = ps
+itemPuts position time (h ∷ hs) ps = itemPuts position time hs (record { hash = h; position = position; time = time } ∷ ps)

@@ -3,7 +3,7 @@ use Prim.Native.Nat.{ℕ, _+_}
 use mathlib.Core.Path.{_≡_, refl, _∙_, ap, subst}
 use mathlib.Core.List.{List, [], _∷_}
 use Rattle.units.specs.Answers.{numberOf}
-use Rattle.machine.specs.Calls.{call, Chain, total, final}
+use Rattle.machine.specs.Calls.{call, Chain, stepsInAll, final}
 use Rattle.dispatch_step.specs.Step.{State}
 use Rattle.dispatch.specs.Dispatch.{dispatcher}
 use Rattle.dispatch_laws.proofs.Demand3.{demand-3}
@@ -44,10 +44,10 @@ unfolding Calls AnswersAre
 answers-are [] l k = tt
 answers-are (r ∷ rs) l k = (answer-is r l (k .0), answers-are rs (r .left) (k .1))
 
-total-is : (rs : List DispatchReport) (l : Lent) → Calls rs l → stepsReported rs ≡ total dispatcher (reports rs l)
-unfolding Calls reports stepsReported total
-total-is [] l k = refl
-total-is (r ∷ rs) l k = λ i. steps-are r l (k .0) i + total-is rs (r .left) (k .1) i
+steps-in-all-are : (rs : List DispatchReport) (l : Lent) → Calls rs l → stepsReported rs ≡ stepsInAll dispatcher (reports rs l)
+unfolding Calls reports stepsReported stepsInAll
+steps-in-all-are [] l k = refl
+steps-in-all-are (r ∷ rs) l k = λ i. steps-are r l (k .0) i + steps-in-all-are rs (r .left) (k .1) i
 
 last-is : (rs : List DispatchReport) (l : Lent) → Calls rs l → stateIn (lastLeft rs l) ≡ final dispatcher (reports rs l) (stateIn l)
 unfolding Calls reports lastLeft final
@@ -55,7 +55,7 @@ last-is [] l k = refl
 last-is (r ∷ rs) l k = last-is rs (r .left) (k .1) ∙ ap (final dispatcher (reports rs (r .left))) (left-is r l (k .0))
 
 pub calls-are : CallsAre
-calls-are rs l k = record { answers = answers-are rs l k; steps = total-is rs l k; left = last-is rs l k }
+calls-are rs l k = record { answers = answers-are rs l k; steps = steps-in-all-are rs l k; left = last-is rs l k }
 
 -- ---- the demands
 
@@ -66,5 +66,5 @@ pub linked-query : LinkedQuery
 unfolding stateIn
 linked-query rs l k h d e z rise topic key first last wanted out q =
     let file : lastLeft rs l .files ≡ final dispatcher (reports rs l) (stateIn l) .index = ap (λ (s : State). s .index) (last-is rs l k) in
-    rw (total-is rs l k, file)
-    (query-after-calls (reports rs l) (stateIn l) (chained rs l k) h d e z (rw (total-is rs l k) at rise) topic key first last wanted out q)
+    rw (steps-in-all-are rs l k, file)
+    (query-after-calls (reports rs l) (stateIn l) (chained rs l k) h d e z (rw (steps-in-all-are rs l k) at rise) topic key first last wanted out q)

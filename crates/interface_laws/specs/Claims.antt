@@ -9,7 +9,7 @@ use Rattle.java_hash.specs.Hash.{indexHash}
 use Rattle.index_query.specs.Query.{wantedOf, queryOk, queried}
 use Rattle.index_query.specs.Claims.{Finds}
 use Rattle.index_laws.specs.History.{Empty, items, SecondsRise, matches}
-use Rattle.machine.specs.Calls.{Call, total, final, passed, Steady, latest}
+use Rattle.machine.specs.Calls.{Call, stepsInAll, final, passed, Steady, latest}
 use Rattle.machine.specs.Claims.{Resumed}
 use Rattle.dispatch.specs.Dispatch.{dispatcher}
 use Rattle.dispatch_laws.specs.History.{puts}
@@ -20,7 +20,7 @@ use Rattle.interface_laws.specs.Calls.{DispatchReport, Calls, reports, s
 -- one's progress, queues and files say
 pub record Same (rs : List DispatchReport) (l : Lent) : Type 0 where
   pub answers : AnswersAre rs l
-  pub steps : stepsReported rs ≡ total dispatcher (reports rs l)
+  pub steps : stepsReported rs ≡ stepsInAll dispatcher (reports rs l)
   pub left : stateIn (lastLeft rs l) ≡ final dispatcher (reports rs l) (stateIn l)
 
 abbrev pub CallsAre : Type 0

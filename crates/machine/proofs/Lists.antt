@@ -10,7 +10,7 @@ use Rattle.units.specs.declared.Answer.{Answer}
 use Rattle.units.specs.declared.Answer.the-variants.{BudgetSpent}
 use Rattle.machine.specs.Steps.{Outcome, moved, stopped, Ran, andThen, iterate, run, Stops}
 use Rattle.machine.specs.Calls.{Door, accepted, refused, Machine, Call, admit, keepIf, latest, Each, Pairs, doorAt, stepAt, call, withBudget}
-use Rattle.machine.specs.Calls.{Report, Chain, total, final, passed, Follows, Steady, EachStops, Leads}
+use Rattle.machine.specs.Calls.{Report, Chain, stepsInAll, final, passed, Follows, Steady, EachStops, Leads}
 use Rattle.machine.specs.Claims.{Laws, Resumes, Bounded}
 use Rattle.machine.proofs.Steps.{never, walk-zero, walk-add, run-stopped, run-stops, walk-room}
 
@@ -93,14 +93,14 @@ module _ (M : Machine) where
   Begins cs n s t =
       ((cs ≡ []) × (n ≡ 0) × (t ≡ s)) ⊎ ((c : Call M) × (ds : List (Call M)) × (cs ≡ c ∷ ds) × (doorAt M c s ≡ accepted))
 
-  begins : (rs : List (Report M)) (s : M .State) → Chain M rs s → Begins (passed M rs s) (total M rs) s (final M rs s)
-  unfolding Chain passed total final keepIf
+  begins : (rs : List (Report M)) (s : M .State) → Chain M rs s → Begins (passed M rs s) (stepsInAll M rs) s (final M rs s)
+  unfolding Chain passed stepsInAll final keepIf
   begins [] s k = inl (refl, refl, refl)
   begins (r ∷ rs) s k = go (doorAt M (r .made) s) refl (begins rs (r .got .state) (k .1))
     where
       go : (o : Door) → doorAt M (r .made) s ≡ o →
-          Begins (passed M rs (r .got .state)) (total M rs) (r .got .state) (final M rs (r .got .state)) →
-          Begins (keepIf o (r .made) (passed M rs (r .got .state))) (r .got .steps + total M rs) s (final M rs (r .got .state))
+          Begins (passed M rs (r .got .state)) (stepsInAll M rs) (r .got .state) (final M rs (r .got .state)) →
+          Begins (keepIf o (r .made) (passed M rs (r .got .state))) (r .got .steps + stepsInAll M rs) s (final M rs (r .got .state))
       go accepted e ih = inr (r .made, passed M rs (r .got .state), refl, e)
       go (refused a) e ih = let g = k .0 ∙ call-refused (r .made) s e in rw (g, zero-add) (rw g at ih)
 
@@ -120,8 +120,8 @@ module _ (M : Machine) (L : Laws M) where
 
   -- calls that d may follow are together a iterate over d's view
   carried : (d : Call M) (rs : List (Report M)) (s : M .State) → Chain M rs s → Each (λ c. Follows M c d) (passed M rs s) →
-      iterate (stepAt M d) (total M rs) s ≡ moved (final M rs s)
-  unfolding Chain passed total final keepIf Each
+      iterate (stepAt M d) (stepsInAll M rs) s ≡ moved (final M rs s)
+  unfolding Chain passed stepsInAll final keepIf Each
   carried d [] s k h = walk-zero (stepAt M d) s
   carried d (r ∷ rs) s k h = go (doorAt M (r .made) s) refl (carried d rs (r .got .state) (k .1)) h
     where
@@ -130,18 +130,18 @@ module _ (M : Machine) (L : Laws M) where
 
       go : (o : Door) → doorAt M c s ≡ o →
           (Each (λ c. Follows M c d) (passed M rs (r .got .state)) →
-          iterate (stepAt M d) (total M rs) (r .got .state) ≡ moved (final M rs (r .got .state))) →
+          iterate (stepAt M d) (stepsInAll M rs) (r .got .state) ≡ moved (final M rs (r .got .state))) →
           Each (λ c. Follows M c d) (keepIf o c (passed M rs (r .got .state))) →
-          iterate (stepAt M d) (r .got .steps + total M rs) s ≡ moved (final M rs (r .got .state))
+          iterate (stepAt M d) (r .got .steps + stepsInAll M rs) s ≡ moved (final M rs (r .got .state))
       go accepted e ih h =
-          walk-add (stepAt M d) (r .got .steps) (total M rs) s
+          walk-add (stepAt M d) (r .got .steps) (stepsInAll M rs) s
           (rw (← h .0 .same)
           (walk-stable (c .fixed) (c .view) (d .view) (h .0 .grown) (r .got .steps) s (r .got .state)
           (L .opened (c .fixed) (c .view) s e)
           (call-stops M r s (k .0) e .walked)))
           ∙ ih (h .1)
       go (refused a) e ih h =
-          walk-add (stepAt M d) (r .got .steps) (total M rs) s (rw (k .0 ∙ call-refused M c s e) (walk-zero (stepAt M d) s)) ∙ ih h
+          walk-add (stepAt M d) (r .got .steps) (stepsInAll M rs) s (rw (k .0 ∙ call-refused M c s e) (walk-zero (stepAt M d) s)) ∙ ih h
 
   -- the last accepted call may follow each accepted one
   follows-latest : (rs : List (Report M)) (s : M .State) → Steady M rs s → (d : Call M) → latest (passed M rs s) ≡ some d →
@@ -162,11 +162,11 @@ module _ (M : Machine) (L : Laws M) where
       (begins M rs s k)
 
   whole : (rs : List (Report M)) (s : M .State) → Chain M rs s → Steady M rs s →
-      Leads M (latest (passed M rs s)) (total M rs) s (final M rs s)
+      Leads M (latest (passed M rs s)) (stepsInAll M rs) s (final M rs s)
   unfolding Leads
   whole rs s k h = go (latest (passed M rs s)) refl
     where
-      go : (o : Option (Call M)) → latest (passed M rs s) ≡ o → Leads M o (total M rs) s (final M rs s)
+      go : (o : Option (Call M)) → latest (passed M rs s) ≡ o → Leads M o (stepsInAll M rs) s (final M rs s)
       go none e = ⊎-elim (λ w. (w .1, w .2)) (λ w. absurd (latest-some (w .0) (w .1) (rw (w .2) at e))) (begins M rs s k)
       go (some d) e = carried d rs s k (follows-latest rs s h d e)
 
@@ -174,15 +174,15 @@ module _ (M : Machine) (L : Laws M) where
   once : (rs : List (Report M)) (r : Report M) (s : M .State) → Chain M (rs ++ r ∷ []) s → Steady M (rs ++ r ∷ []) s →
       doorAt M (r .made) (final M rs s) ≡ accepted →
       (r .got .answer ≡ BudgetSpent → ⊥) →
-      (b : ℕ) → total M (rs ++ r ∷ []) < b →
+      (b : ℕ) → stepsInAll M (rs ++ r ∷ []) < b →
       call M (withBudget M (r .made) b) s
-      ≡ record { answer = r .got .answer; steps = total M (rs ++ r ∷ []); state = final M (rs ++ r ∷ []) s }
+      ≡ record { answer = r .got .answer; steps = stepsInAll M (rs ++ r ∷ []); state = final M (rs ++ r ∷ []) s }
   once rs r s k h e q b l =
       let d : Call M = r .made in
       let p : latest (passed M (rs ++ r ∷ []) s) ≡ some d = passed-last M rs r s e in
       let v = first-view (rs ++ r ∷ []) s k h d p in
       call-accepted M (withBudget M d b) s (L .reopened (d .fixed) (v .0) (d .view) s (final M rs s) (v .1) (v .2) e)
-      ∙ run-stopped (stepAt M d) (total M (rs ++ r ∷ [])) b s (carried d (rs ++ r ∷ []) s k (follows-latest (rs ++ r ∷ []) s h d p))
+      ∙ run-stopped (stepAt M d) (stepsInAll M (rs ++ r ∷ [])) b s (carried d (rs ++ r ∷ []) s k (follows-latest (rs ++ r ∷ []) s h d p))
       (rw (final-last M rs r s) (by-rule q (call-stops M r (final M rs s) (chain-last M rs r s k) e))) l
 
 pub resumes : Resumes
@@ -200,7 +200,7 @@ bounded M L C rs s k h d e =
       arith,
       walk-room (stepAt M d) (L .Holds (d .fixed)) (C .height) (C .limit (d .view))
           (λ a b p m. (L .kept (d .fixed) (d .view) a b p m, C .climbs (d .fixed) (d .view) a b p m .0, C .climbs (d .fixed) (d .view) a b p m .1))
-          (total M rs) s (final M rs s)
+          (stepsInAll M rs) s (final M rs s)
           (L .opened (d .fixed) (v .0) s (v .2))
           (carried M L d rs s k (follows-latest M L rs s h d e)),
     )

@@ -75,9 +75,9 @@ module _ (M : Machine) where
   Chain (r ∷ rs) s = (r .got ≡ call (r .made) s) × Chain rs (r .got .state)
 
   -- "the sum of the steps reported"
-  unfoldable pub total : List Report → ℕ
-  total [] = zero
-  total (r ∷ rs) = r .got .steps + total rs
+  unfoldable pub stepsInAll : List Report → ℕ
+  stepsInAll [] = zero
+  stepsInAll (r ∷ rs) = r .got .steps + stepsInAll rs
 
   -- the state after the list
   unfoldable pub final : List Report → M .State → M .State

@@ -5,19 +5,19 @@ use mathlib.Core.List.{List, [], _∷_, _++_}
 use mathlib.Core.Option.{some}
 use Rattle.units.specs.declared.Answer.the-variants.{BudgetSpent}
 use Rattle.machine.specs.Steps.{moved}
-use Rattle.machine.specs.Calls.{Machine, Call, accepted, doorAt, call, withBudget, latest, Report, Chain, total, final, passed, Steady, EachStops, Leads}
+use Rattle.machine.specs.Calls.{Machine, Call, accepted, doorAt, call, withBudget, latest, Report, Chain, stepsInAll, final, passed, Steady, EachStops, Leads}
 
 -- the claim about the list rs from the start s
 pub record Resumed (M : Machine) (rs : List (Report M)) (s : M .State) : Type 0 where
   pub each : EachStops M rs s
-  pub whole : Leads M (latest (passed M rs s)) (total M rs) s (final M rs s)
+  pub whole : Leads M (latest (passed M rs s)) (stepsInAll M rs) s (final M rs s)
   -- "If the last call is accepted and stops for any cause but a spent budget, one call from that start, made as the last one but with a budget above n,
   -- reports n steps and the same answer, progress, queues and index"
   pub once : (before : List (Report M)) (r : Report M) → rs ≡ before ++ r ∷ [] →
       doorAt M (r .made) (final M before s) ≡ accepted →
       (r .got .answer ≡ BudgetSpent → ⊥) →
-      (b : ℕ) → total M rs < b →
-      call M (withBudget M (r .made) b) s ≡ record { answer = r .got .answer; steps = total M rs; state = final M rs s }
+      (b : ℕ) → stepsInAll M rs < b →
+      call M (withBudget M (r .made) b) s ≡ record { answer = r .got .answer; steps = stepsInAll M rs; state = final M rs s }
 
 -- what an instance shows; `Holds` is what its step needs besides, as that the position is not below the log's start
 pub record Laws (M : Machine) : Type 1 where
@@ -45,4 +45,4 @@ Resumes = (M : Machine) → Laws M → (rs : List (Report M)) (s : M .State) →
 abbrev pub Bounded : Type 1
 Bounded =
     (M : Machine) (L : Laws M) (C : Climbs M L) (rs : List (Report M)) (s : M .State) → Chain M rs s → Steady M rs s →
-    (d : Call M) → latest (passed M rs s) ≡ some d → total M rs ≤ C .limit (d .view)
+    (d : Call M) → latest (passed M rs s) ≡ some d → stepsInAll M rs ≤ C .limit (d .view)
