@@ -11,7 +11,7 @@ use Rattle.codec.specs.Choice.{pick}
 use Rattle.codec.proofs.Choices.{both, neither}
 use Rattle.units.specs.declared.LogPosition.{LogPosition}
 use Rattle.units.specs.declared.Answer.{Answer}
-use Rattle.units.specs.declared.Answer.the-variants.{BadSizes, BadPosition, BadDirectory, BadHeader}
+use Rattle.units.specs.declared.Answer.the-variants.{BadSizes, BadPosition, BadDirectory, BadHeader, BudgetSpent}
 use Rattle.directory.specs.declared.RowCount.{RowCount}
 use Rattle.directory.specs.declared.RowCount.the-variants.{Refused, Rows}
 use Rattle.commit_log.specs.Log.{geometryOk, outside}
@@ -22,6 +22,7 @@ use Rattle.index_file.specs.Index.{sizesOk, headerSound}
 use Rattle.index_file.proofs.Judged.{sizes-facts, door-sized}
 use Rattle.machine.specs.Steps.{Ran, run}
 use Rattle.machine.specs.Calls.{accepted, refused, call}
+use Rattle.machine.proofs.Steps.{walk-zero, run-spent}
 use Rattle.machine.proofs.Lists.{call-accepted, call-refused}
 use Rattle.dispatch_request.specs.Request.{View}
 use Rattle.dispatch_step.specs.declared.Sizes.{Sizes}
@@ -114,3 +115,8 @@ module _ (f : Fixed) (v : View) (b : ℕ) (s : State) where
 
   pub call-runs : {r : Ran State} → r ≡ run (stepOf f v) b s → doorOf f v s ≡ accepted → r ≡ call dispatcher (record { fixed = f; view = v; budget = b }) s
   call-runs d e = d ∙ sym (call-accepted dispatcher _ s e)
+
+  -- a budget of 0 is spent at once
+  pub call-none : {r : Dispatched} → r ≡ record { answer = BudgetSpent; steps = 0; progress = s .progress } → b ≡ 0 → doorOf f v s ≡ accepted
+      → ranOf r (s .counts) (s .queues) (s .index) ≡ call dispatcher (record { fixed = f; view = v; budget = b }) s
+  call-none d z e = call-runs (rw (d, z) (sym (run-spent (stepOf f v) 0 s (walk-zero (stepOf f v) s)))) e

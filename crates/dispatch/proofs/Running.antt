@@ -9,7 +9,7 @@ use lib.ListN.{length}
 use Rattle.units.specs.declared.Answer.{Answer}
 use Rattle.units.specs.declared.Answer.the-variants.{Done, BudgetSpent}
 use Rattle.machine.specs.Steps.{Ran, run, Stops}
-use Rattle.machine.proofs.Steps.{walk-zero, walk-add, run-spent, run-stopped, run-stops, stops-run}
+use Rattle.machine.proofs.Steps.{walk-add, run-spent, run-stopped, run-stops, stops-run}
 use Rattle.dispatch_request.specs.Request.{View, Stands, stop, blank, request}
 use Rattle.dispatch_request.proofs.Standing.{hashes-few}
 use Rattle.dispatch_step.specs.Step.{Fixed, State, stateOf, stepOf, standsHere}
@@ -105,7 +105,3 @@ module _ (f : Fixed) (v : View) where
             walked = walk-add (stepOf f v) (r .call .steps) (w .steps) s (h .walked e) ∙ rest .walked;
             first = ⊎-elim (λ x. inl (omega (arith, x .0, h .under e), x .1)) (λ x. inr (omega (arith, x .0, h .under e), x .1)) (rest .first);
           })
-
--- a budget of 0 is spent at once
-pub run-none : (f : Fixed) (v : View) (s : State) {b : ℕ} → b ≡ 0 → record { answer = BudgetSpent; steps = 0; state = s } ≡ run (stepOf f v) b s
-run-none f v s e = rw e (sym (run-spent (stepOf f v) 0 s (walk-zero (stepOf f v) s)))

@@ -8,6 +8,7 @@ ghost use Rattle.machine.specs.Calls.{call};
 ghost use Rattle.dispatch_request.specs.Request.{viewOf};
 ghost use Rattle.dispatch_step.specs.Step.{fixedOf, stateOf, stepOf};
 ghost use Rattle.dispatch_step.specs.Door.{Admitted};
+ghost use Rattle.dispatch_ahead.specs.Ahead.{RoomAhead};
 ghost use Rattle.dispatch.specs.Dispatch.{sizesFit, progressBad, dispatcher, callOf, ranOf};
 ghost use Rattle.dispatch.specs.Inner.{Runs};
 use directory::RowCount;
@@ -55,12 +56,12 @@ fn run_steps(
     queues: &mut [u8],
     index: &mut [u8],
     budget: u64,
+    requests: &mut [u64],
     list: &mut [u32],
 ) -> Ran
-    requires { ⌜ Admitted (fixedOf sizes (now directory)) (viewOf (now log) «readable_end») (stateOf progress (now counts) (now queues) (now index)) × (0 < length (now list)) × (length (now list) ≤ 16385) ⌝ }
+    requires { ⌜ Admitted (fixedOf sizes (now directory)) (viewOf (now log) «readable_end») (stateOf progress (now counts) (now queues) (now index)) × RoomAhead (now requests) (now list) ⌝ }
     ensures { λ r. ⌜ Runs (fixedOf sizes (now (directory .entry))) (viewOf (now (log .entry)) «readable_end») budget (length (now (list .entry))) (stateOf progress (now (counts .entry)) (now (queues .entry)) (now (index .entry))) r (now (counts .exit)) (now (queues .exit)) (now (index .exit)) ⌝ }
 {
-    let mut requests = [0u64; dispatch_ahead::REQUESTS];
     let mut now = progress;
     let mut steps: u64 = 0;
     while steps < budget {
@@ -74,7 +75,7 @@ fn run_steps(
             queues,
             index,
             budget - steps,
-            &mut requests,
+            requests,
             list,
         );
         now = advanced.progress;
@@ -122,6 +123,7 @@ fn run_long(
     requires { ⌜ Admitted (fixedOf sizes (now directory)) (viewOf (now log) «readable_end») (stateOf progress (now counts) (now queues) (now index)) ⌝ }
     ensures { λ r. ⌜ ranOf r (now (counts .exit)) (now (queues .exit)) (now (index .exit)) ≡ run (stepOf (fixedOf sizes (now (directory .entry))) (viewOf (now (log .entry)) «readable_end»)) budget (stateOf progress (now (counts .entry)) (now (queues .entry)) (now (index .entry))) ⌝ }
 {
+    let mut requests = [0u64; dispatch_ahead::REQUESTS];
     let mut list = [0u32; DispatchRequest::MOST_ITEMS];
     let ran = run_steps(
         log,
@@ -133,6 +135,7 @@ fn run_long(
         queues,
         index,
         budget,
+        &mut requests,
         &mut list,
     );
     let call = ran.call;
@@ -153,8 +156,8 @@ fn run_long(
     behind(call.steps, rest)
 }
 
-// The steps of a call. A short list takes nearly every record; from the first that has more items on, one for any record is taken.
-fn run_call(
+// Steps with a short list, which takes nearly every record; from the first that has more items on, one for any record is taken.
+fn run_short(
     log: &[u8],
     readable_end: LogPosition,
     sizes: Sizes,
@@ -164,17 +167,11 @@ fn run_call(
     queues: &mut [u8],
     index: &mut [u8],
     budget: u64,
+    requests: &mut [u64],
 ) -> Dispatched
-    requires { ⌜ Admitted (fixedOf sizes (now directory)) (viewOf (now log) «readable_end») (stateOf progress (now counts) (now queues) (now index)) ⌝ }
+    requires { ⌜ Admitted (fixedOf sizes (now directory)) (viewOf (now log) «readable_end») (stateOf progress (now counts) (now queues) (now index)) × (7 ≤ length (now requests)) × (length (now requests) ≤ 112) ⌝ }
     ensures { λ r. ⌜ ranOf r (now (counts .exit)) (now (queues .exit)) (now (index .exit)) ≡ run (stepOf (fixedOf sizes (now (directory .entry))) (viewOf (now (log .entry)) «readable_end»)) budget (stateOf progress (now (counts .entry)) (now (queues .entry)) (now (index .entry))) ⌝ }
 {
-    if budget == 0 {
-        return Dispatched {
-            answer: Answer::BudgetSpent,
-            steps: 0,
-            progress,
-        };
-    }
     let mut list = [0u32; dispatch_ahead::SHORT_LIST];
     let ran = run_steps(
         log,
@@ -186,6 +183,7 @@ fn run_call(
         queues,
         index,
         budget,
+        requests,
         &mut list,
     );
     let call = ran.call;
@@ -204,6 +202,51 @@ fn run_call(
         budget - call.steps,
     );
     behind(call.steps, rest)
+}
+
+// The steps of a call, with places for as many requests as it may take, up to 16.
+fn run_call(
+    log: &[u8],
+    readable_end: LogPosition,
+    sizes: Sizes,
+    directory: &[u8],
+    progress: Progress,
+    counts: &mut [u64; 16],
+    queues: &mut [u8],
+    index: &mut [u8],
+    budget: u64,
+) -> Dispatched
+    requires { ⌜ Admitted (fixedOf sizes (now directory)) (viewOf (now log) «readable_end») (stateOf progress (now counts) (now queues) (now index)) ⌝ }
+    ensures { λ r. ⌜ ranOf r (now (counts .exit)) (now (queues .exit)) (now (index .exit)) ≡ run (stepOf (fixedOf sizes (now (directory .entry))) (viewOf (now (log .entry)) «readable_end»)) budget (stateOf progress (now (counts .entry)) (now (queues .entry)) (now (index .entry))) ⌝ }
+{
+    if budget <= dispatch_ahead::SHORT_BATCH {
+        let mut few = [0u64; dispatch_ahead::SHORT_REQUESTS];
+        return run_short(
+            log,
+            readable_end,
+            sizes,
+            directory,
+            progress,
+            counts,
+            queues,
+            index,
+            budget,
+            &mut few,
+        );
+    }
+    let mut requests = [0u64; dispatch_ahead::REQUESTS];
+    run_short(
+        log,
+        readable_end,
+        sizes,
+        directory,
+        progress,
+        counts,
+        queues,
+        index,
+        budget,
+        &mut requests,
+    )
 }
 
 // Door check 1, of a log and an index of so many bytes.
@@ -233,8 +276,8 @@ fn progress_bad(
     outside | !consume_queue::counts_ok(counts, sizes.queue_entries)
 }
 
-// A call that is refused at the door.
-fn refused(answer: Answer, progress: Progress) -> Dispatched
+// A call that ends before its first step.
+fn no_step(answer: Answer, progress: Progress) -> Dispatched
     ensures { λ r. ⌜ r ≡ record { answer = answer; steps = 0; progress = progress } ⌝ }
 {
     Dispatched {
@@ -259,17 +302,20 @@ pub fn dispatch(
     ensures { λ r. ⌜ ranOf r (now (counts .exit)) (now (queues .exit)) (now (index .exit)) ≡ call dispatcher (callOf sizes (now (directory .entry)) (now (log .entry)) «readable_end» budget) (stateOf progress (now (counts .entry)) (now (queues .entry)) (now (index .entry))) ⌝ }
 {
     if !sizes_fit(sizes, log.len(), index.len()) {
-        return refused(Answer::BadSizes, progress);
+        return no_step(Answer::BadSizes, progress);
     }
     let listing = consume_queue::queue_rows(directory, sizes.queue_entries, queues.len());
     if let RowCount::Refused = listing {
-        return refused(Answer::BadDirectory, progress);
+        return no_step(Answer::BadDirectory, progress);
     }
     if progress_bad(sizes, log.len(), progress, readable_end, counts) {
-        return refused(Answer::BadPosition, progress);
+        return no_step(Answer::BadPosition, progress);
     }
     if !index_file::header_sound(index, sizes.index.item_count) {
-        return refused(Answer::BadHeader, progress);
+        return no_step(Answer::BadHeader, progress);
+    }
+    if budget == 0 {
+        return no_step(Answer::BudgetSpent, progress);
     }
     run_call(
         log,

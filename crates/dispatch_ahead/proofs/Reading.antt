@@ -1,15 +1,15 @@
 -- Records read ahead: what holds before each turn, and how the loop ends. Assumes nothing.
-use Prim.Native.Nat.{ℕ, zero, suc, _+_, _-_, _≤_, _<_}
+use Prim.Native.Nat.{ℕ, zero, suc, _+_, _*_, _-_, _≤_, _<_}
 use mathlib.Core.Path.{_≡_, refl, sym, _∙_, ap}
 use mathlib.Core.Bool.{Bool, true, false, _&&_}
 use mathlib.Core.List.{List, _++_}
 use native.Mathlib.Numerals.{add-one}
 use native.Mathlib.Omega.{arith}
-use lib.Dec.{ltb}
+use lib.Dec.{leb, ltb}
 use lib.ListN.{length, take, drop, take-append-drop, length-take, length-drop}
 use lib.Seq.{length-take-le, take-append-le, take-at, drop-at}
 use borrow.Author.Count.{below-more}
-use borrow.Author.Tests.{lt-ltb}
+use borrow.Author.Tests.{lt-ltb, le-leb}
 use Rattle.codec.specs.Bytes.{part}
 use Rattle.codec.proofs.Parts.{part-left}
 use Rattle.units.specs.declared.Answer.{Answer}
@@ -75,7 +75,7 @@ pub record Reading (f : Fixed) (v : View) (p : LogPosition) (most room : ℕ) (r
   pub counted : items ≡ itemsBefore f v p records
   pub fits : items ≤ length list
   pub long : length list ≡ room
-  pub few : records ≤ 16
+  pub few : 7 * records ≤ length requests
   pub under : records ≤ most
   pub within : Within (f .sizes .geometry) (length (v .log)) at (v .end)
   pub kept : (i : ℕ) → i < records → Kept f v p requests list i
@@ -110,17 +110,17 @@ module _ (f : Fixed) (v : View) (p : LogPosition) (most : ℕ) (requests list : 
 
   module _ (room : ℕ) (at : LogPosition) (records items : ℕ) (g : Reading f v p most room requests list at records items) where
     -- nothing more was looked at
-    pub reading-full : {b : Batch} → ((ltb records 16 && ltb records most) && ltb items (length list)) ≡ false → 0 < length list
+    pub reading-full : {b : Batch} → ((leb (7 * records + 7) (length requests) && ltb records most) && ltb items (length list)) ≡ false → 7 ≤ length requests → 0 < length list
         → b ≡ record { records = records; items = items; behind = Unread } → Batched f v p most b requests list
     unfolding BehindIs itemsBefore
-    reading-full full some e =
+    reading-full full one some e =
         ends g Unread tt (λ h. absurd (h refl)) (λ x m. go m records refl (g .counted)) e
       where
         open-still : (x y z : Bool) → ((x && y) && z) ≡ false → x ≡ true → y ≡ true → z ≡ true → ⊥
         open-still x y z h i j k = let n : _≡_ {A = Bool} true false = (rw (i, j, k) at h) in let o : _≡_ {A = ℕ} 0 1 = cc in omega arith
 
         go : 0 < most → (n : ℕ) → records ≡ n → items ≡ itemsBefore f v p n → 0 < records
-        go m zero x c = absurd (open-still _ _ _ full (lt-ltb records 16 (omega arith)) (lt-ltb records most (omega arith)) (lt-ltb items (length list) (omega arith)))
+        go m zero x c = absurd (open-still _ _ _ full (le-leb (7 * records + 7) (length requests) (omega arith)) (lt-ltb records most (omega arith)) (lt-ltb items (length list) (omega arith)))
         go m (suc n) x c = omega arith
 
     module _ (sub : List ℕ) (l : (length sub ≡ length (take (length list - items) (drop items list))) × (length (back items list sub) ≡ length list)) where
@@ -187,9 +187,9 @@ module _ (f : Fixed) (v : View) (p : LogPosition) (most : ℕ) (requests list : 
                     (in-front (standsIn f v (behind f v p records)) sub (rw (← g .place) (n .listed)) (here .1));
               }
 
-          pub reading-on : records < 16 → records < most → Reading f v p most room requests′ (back items list sub) (record { 0 = at .0 + q .total }) (records + 1) (items + q .items)
+          pub reading-on : 7 * records + 7 ≤ length requests → records < most → length requests′ ≡ length requests → Reading f v p most room requests′ (back items list sub) (record { 0 = at .0 + q .total }) (records + 1) (items + q .items)
           unfolding behind itemsBefore standsTotal
-          reading-on x y =
+          reading-on x y same =
               let z = next-below (f .directory) (f .sizes .geometry) v at n e in
               rw (add-one records)
               (record {

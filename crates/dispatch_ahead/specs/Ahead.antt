@@ -74,12 +74,19 @@ BehindIs x items n (Stop a) = x ≡ stop a
 BehindIs x items n (Blank k) = x ≡ blank k
 BehindIs x items n Long = n < items + length (standsHashes x)
 
+-- places for 1 to 16 requests, and for hashes
+pub record RoomAhead (requests list : List ℕ) : Type 0 where
+  pub one : 7 ≤ length requests
+  pub few : length requests ≤ 112
+  pub some : 0 < length list
+  pub bound : length list ≤ 16385
+
 -- what was read ahead from p on
 pub record Batched (f : Fixed) (v : View) (p : LogPosition) (most : ℕ) (r : Batch) (requests list : List ℕ) : Type 0 where
   pub kept : (i : ℕ) → i < r .records → Kept f v p requests list i
   pub counted : r .items ≡ itemsBefore f v p (r .records)
   pub fits : r .items ≤ length list
-  pub few : r .records ≤ 16
+  pub few : 7 * r .records ≤ length requests
   pub under : r .records ≤ most
   pub behind-is : BehindIs (standsIn f v (behind f v p (r .records))) (r .items) (length list) (r .behind)
   -- more was asked for, and something was read that is not kept

@@ -8,7 +8,7 @@ ghost use Rattle.dispatch_request.specs.Request.{viewOf};
 ghost use Rattle.dispatch_request.specs.Reading.{Listed};
 ghost use Rattle.dispatch_step.specs.Step.{fixedOf, stateOf};
 ghost use Rattle.dispatch_step.specs.Door.{Admitted};
-ghost use Rattle.dispatch_ahead.specs.Ahead.{requestAt, Batched, passBy, AdvancesTo};
+ghost use Rattle.dispatch_ahead.specs.Ahead.{requestAt, RoomAhead, Batched, passBy, AdvancesTo};
 ghost use Rattle.dispatch_ahead.specs.declared.Behind.the-variants.{Blank};
 use dispatch_request::DispatchRequest;
 use dispatch_request::Next;
@@ -49,14 +49,18 @@ pub struct Advanced {
     pub ended: Ended,
 }
 
-// The most records that are read ahead.
-const BATCH: usize = 16;
-
 // The numbers of a request.
 const REQUEST: usize = 7;
 
-// The numbers of as many requests as are read ahead.
+// The most records that are read ahead, and the numbers of their requests.
+pub const BATCH: u64 = 16;
+
 pub const REQUESTS: usize = 112;
+
+// The same of a short call: places that it does not need are not set to 0.
+pub const SHORT_BATCH: u64 = 4;
+
+pub const SHORT_REQUESTS: usize = 28;
 
 // The places of a list that has them for the items of nearly every batch.
 pub const SHORT_LIST: usize = 64;
@@ -83,8 +87,8 @@ fn put_request(requests: &mut [u64], n: usize, request: DispatchRequest)
 }
 
 // Request n, as it was kept.
-fn request_at(requests: &[u64; REQUESTS], n: usize) -> DispatchRequest
-    requires { ⌜ n < 16 ⌝ }
+fn request_at(requests: &[u64], n: usize) -> DispatchRequest
+    requires { ⌜ 7 * n + 7 ≤ length (now requests) ⌝ }
     ensures { λ r. ⌜ r ≡ requestAt (now (requests .entry)) n ⌝ }
 {
     let at = REQUEST * n;
@@ -118,17 +122,20 @@ fn read_ahead(
     directory: &[u8],
     position: LogPosition,
     most: u64,
-    requests: &mut [u64; REQUESTS],
+    requests: &mut [u64],
     list: &mut [u32],
 ) -> Batch
-    requires { ⌜ GeometryFits (sizes .geometry) (length (now log)) × Within (sizes .geometry) (length (now log)) position «readable_end» × Listed (now directory) × (0 < length (now list)) ⌝ }
+    requires { ⌜ GeometryFits (sizes .geometry) (length (now log)) × Within (sizes .geometry) (length (now log)) position «readable_end» × Listed (now directory) × RoomAhead (now requests) (now list) ⌝ }
     ensures { λ r. ⌜ Batched (fixedOf sizes (now (directory .entry))) (viewOf (now (log .entry)) «readable_end») position most r (now (requests .exit)) (now (list .exit)) ⌝ }
 {
     let mut at = position;
     let mut records: usize = 0;
     let mut items: usize = 0;
     let geometry = sizes.geometry;
-    while (records < BATCH) & ((records as u64) < most) & (items < list.len()) {
+    while (REQUEST * records + REQUEST <= requests.len())
+        & ((records as u64) < most)
+        & (items < list.len())
+    {
         let next = dispatch_request::read_request(
             log,
             geometry,
@@ -205,10 +212,10 @@ pub fn advance(
     queues: &mut [u8],
     index: &mut [u8],
     most: u64,
-    requests: &mut [u64; REQUESTS],
+    requests: &mut [u64],
     list: &mut [u32],
 ) -> Advanced
-    requires { ⌜ Admitted (fixedOf sizes (now directory)) (viewOf (now log) «readable_end») (stateOf progress (now counts) (now queues) (now index)) × (0 < length (now list)) × (length (now list) ≤ 16385) ⌝ }
+    requires { ⌜ Admitted (fixedOf sizes (now directory)) (viewOf (now log) «readable_end») (stateOf progress (now counts) (now queues) (now index)) × RoomAhead (now requests) (now list) ⌝ }
     ensures { λ r. ⌜ AdvancesTo (fixedOf sizes (now (directory .entry))) (viewOf (now (log .entry)) «readable_end») most (length (now (list .entry))) (stateOf progress (now (counts .entry)) (now (queues .entry)) (now (index .entry))) r (now (counts .exit)) (now (queues .exit)) (now (index .exit)) ⌝ }
 {
     let position = progress.position;

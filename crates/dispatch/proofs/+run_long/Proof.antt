@@ -27,10 +27,10 @@ claims t = (run-steps-reads.Asked, run-steps-reads.Learnt, run-long-below t, run
 -- ---- places
 
 abbrev begun : (t : ℕ) → run-long-lts.After-list (claims t) (run-long-at t) run-long.Post → run-long-lts.Start (claims t) (run-long-at t) run-long.Post
-begun t c = c .before .before .before .before .before .before .before .before
+begun t c = c .before .before .before .before .before .before .before .before .before
 
 abbrev run : (t : ℕ) → run-long-lts.After-call (claims t) (run-long-at t) run-long.Post → run-long-lts.After-run-steps (claims t) (run-long-at t) run-long.Post
-run t c = c .before .before .before .before .before .before
+run t c = c .before .before .before .before .before .before .before
 
 abbrev unended : (t : ℕ) → run-long-lts.After-struct-known (claims t) (run-long-at t) run-long.Post → run-long-lts.Else1 (claims t) (run-long-at t) run-long.Post
 unended t c = c .before .before .before .before
@@ -47,8 +47,12 @@ never t c = always-ended _ _ _ _ _ (run t (c .before) .run-steps .ensures) (sear
 slice-aggregate-run-steps : (t : ℕ) → run-long-lts.Need-slice-aggregate-run-steps (claims t) (run-long-at t) run-long.Post
 slice-aggregate-run-steps t c = search needs
 
+slice-aggregate-run-steps-2 : (t : ℕ) → run-long-lts.Need-slice-aggregate-run-steps-2 (claims t) (run-long-at t) run-long.Post
+slice-aggregate-run-steps-2 t c = search needs
+
 run-steps-requires : (t : ℕ) → run-long-lts.Need-run-steps-requires (claims t) (run-long-at t) run-long.Post
-run-steps-requires t c κs = (begun t c .pre .1, search needs, search needs)
+run-steps-requires t c κs =
+    (begun t c .pre .1, record { one = search needs; few = search needs; some = search needs; bound = search needs })
 
 same-length : (t : ℕ) → run-long-lts.Need-same-length (claims t) (run-long-at t) run-long.Post
 same-length t c = search needs
@@ -83,6 +87,7 @@ pub +run-long-spec : {M : Type 1} → statement M
     (λ t.
     run-long-lts.spec (claims t) (run-long-at t) run-long.Post
     (slice-aggregate-run-steps t)
+    (slice-aggregate-run-steps-2 t)
     (run-steps-requires t)
     (same-length t)
     (same-length-2 t)

@@ -1,6 +1,6 @@
 -- `dispatch::dispatch` meets its contract: the checks of the door in their order, then the steps. Assumes nothing.
 use Rattle.commit_log.proofs.LogDoor.{taken, refused}
-use Rattle.dispatch.proofs.DispatchDoor.{sizes-known, index-long, door-sizes, door-directory, door-position, door-header, door-open, door-sound, call-shut, call-runs}
+use Rattle.dispatch.proofs.DispatchDoor.{sizes-known, index-long, door-sizes, door-directory, door-position, door-header, door-open, door-sound, call-shut, call-runs, call-none}
 use borrow.Author.Needs.{needs}
 use Rattle.dispatch.proofs.dispatch.Statement.{statement}
 use Rattle.dispatch.proofs.dispatch.Tie as tie
@@ -20,7 +20,7 @@ abbrev sound : tie.Else3 → tie.Else2
 sound c = c .before .before .before
 
 abbrev inside : tie.After-run-call-arg3 → tie.Else3
-inside c = c .before .before .before
+inside c = c .before .before .before .before
 
 abbrev ran : tie.After-slice-known4 → tie.After-run-call
 ran c = c .before .before .before .before
@@ -28,7 +28,7 @@ ran c = c .before .before .before .before
 -- ---- needs
 
 returns : tie.Need-returns
-returns c = call-shut _ _ _ _ (c .refused .ensures) (door-sizes _ _ _ (refused (c .before .before .sizes-fit .ensures) (c .before .if1 .taken)))
+returns c = call-shut _ _ _ _ (c .no-step .ensures) (door-sizes _ _ _ (refused (c .before .before .sizes-fit .ensures) (c .before .if1 .taken)))
 
 queue-rows-requires : tie.Need-queue-rows-requires
 queue-rows-requires c κs = sizes-known _ _ _ (taken (c .before .sizes-fit .ensures) (c .if1 .left)) .entries
@@ -37,7 +37,7 @@ returns-2 : tie.Need-returns-2
 returns-2 c =
     let q = c .before .before .before in
     let z = sized q in
-    call-shut _ _ _ _ (c .refused2 .ensures) (door-directory _ _ _ (taken (z .before .sizes-fit .ensures) (z .if1 .left)) (q .queue-rows .ensures) (c .before .enum-told .given .1))
+    call-shut _ _ _ _ (c .no-step2 .ensures) (door-directory _ _ _ (taken (z .before .sizes-fit .ensures) (z .if1 .left)) (q .queue-rows .ensures) (c .before .enum-told .given .1))
 
 progress-bad-requires : tie.Need-progress-bad-requires
 progress-bad-requires c κs =
@@ -50,7 +50,7 @@ returns-3 c =
     let l = p .before .before in
     let q = listed l in
     let z = sized q in
-    call-shut _ _ _ _ (c .refused3 .ensures)
+    call-shut _ _ _ _ (c .no-step3 .ensures)
     (door-position _ _ _ (taken (z .before .sizes-fit .ensures) (z .if1 .left)) (q .queue-rows .ensures) (l .enum-told2 .given .1) (p .progress-bad .ensures) (c .before .if2 .taken))
 
 header-sound-requires : tie.Need-header-sound-requires
@@ -65,8 +65,18 @@ returns-4 c =
     let l = placed p in
     let q = listed l in
     let z = sized q in
-    call-shut _ _ _ _ (c .refused4 .ensures)
+    call-shut _ _ _ _ (c .no-step4 .ensures)
     (door-header _ _ _ (taken (z .before .sizes-fit .ensures) (z .if1 .left)) (q .queue-rows .ensures) (l .enum-told2 .given .1) (p .before .progress-bad .ensures) (p .if2 .left) (refused (h .header-sound .ensures) (c .before .if3 .taken)))
+
+returns-5 : tie.Need-returns-5
+returns-5 c =
+    let o = c .before .before in
+    let p = sound o in
+    let l = placed p in
+    let q = listed l in
+    let z = sized q in
+    call-none _ _ _ _ (c .no-step5 .ensures) (c .before .if4 .taken)
+    (door-open _ _ _ (taken (z .before .sizes-fit .ensures) (z .if1 .left)) (q .queue-rows .ensures) (l .enum-told2 .given .1) (p .before .progress-bad .ensures) (p .if2 .left) (taken (o .before .header-sound .ensures) (o .if3 .left)))
 
 run-call-requires : tie.Need-run-call-requires
 run-call-requires c κs =
@@ -77,8 +87,8 @@ run-call-requires c κs =
     let z = sized q in
     door-sound _ _ _ (taken (z .before .sizes-fit .ensures) (z .if1 .left)) (q .queue-rows .ensures) (l .enum-told2 .given .1) (p .before .progress-bad .ensures) (p .if2 .left) (taken (o .before .header-sound .ensures) (o .if3 .left))
 
-returns-5 : tie.Need-returns-5
-returns-5 c =
+returns-6 : tie.Need-returns-6
+returns-6 c =
     let r = ran c in
     let o = inside (r .before) in
     let p = sound o in
@@ -107,7 +117,10 @@ dispatch-spec =
     (search needs)
     (search needs)
     returns-4
+    (search needs)
+    (search needs)
+    returns-5
     run-call-requires
     (search needs)
     (search needs)
-    returns-5)
+    returns-6)

@@ -1,74 +1,31 @@
--- `dispatch::run_call` meets its contract: no budget, a run that ends the call, or one run behind another. Assumes nothing.
-use native.Mathlib.Omega.{arith}
-use Rattle.dispatch.proofs.Running.{run-none, rest-sound, rest-under, rest-joined}
+-- `dispatch::run_call` meets its contract: either list of requests has places for those that are read ahead. Assumes nothing.
 use borrow.Author.Needs.{needs}
 use Rattle.dispatch.proofs.run_call.Statement.{statement}
 use Rattle.dispatch.proofs.run_call.Tie as tie
 
--- ---- places
-
-abbrev begun : tie.After-list → tie.Start
-begun c = c .before .before .before .before .before .before .before .before .before
-
-abbrev start : tie.After-run-steps → tie.Start
-start c = begun (c .before)
-
-abbrev first : tie.After-call → tie.After-run-steps
-first c = c .before .before .before .before .before .before
-
-abbrev unended : tie.After-struct-known → tie.Else2
-unended c = c .before .before .before .before
-
-abbrev second : tie.After-slice-known6 → tie.After-run-long
-second c = c .before .before .before .before
-
--- ---- needs
+run-short-requires : tie.Need-run-short-requires
+run-short-requires c κs = (c .before .before .before .before .before .before .before .before .before .pre, search needs, search needs)
 
 returns : tie.Need-returns
-returns c = run-none _ _ _ (c .if1 .taken)
+returns c = c .before .before .before .before .before .run-short .ensures
 
-run-steps-requires : tie.Need-run-steps-requires
-run-steps-requires c κs = (begun c .pre, search needs, search needs)
+run-short-requires-2 : tie.Need-run-short-requires-2
+run-short-requires-2 c κs = (c .before .before .before .before .before .before .before .before .before .pre, search needs, search needs)
 
 returns-2 : tie.Need-returns-2
-returns-2 c = first (c .before) .run-steps .ensures .whole (c .if2 .taken)
-
-sub-run-long : tie.Need-sub-run-long
-sub-run-long c = let u = unended c in first (u .before) .run-steps .ensures .under (u .if2 .left)
-
-run-long-requires : tie.Need-run-long-requires
-run-long-requires c κs =
-    let u = unended c in
-    let r = first (u .before) in
-    rest-sound _ _ _ _ _ (r .run-steps .ensures) (start r .pre) (u .if2 .left)
-
-behind-requires : tie.Need-behind-requires
-behind-requires c κs =
-    let l = second c in
-    let u = unended (l .before) in
-    let r = first (u .before) in
-    omega (arith, rest-under _ _ _ _ _ (r .run-steps .ensures) (u .if2 .left) (l .run-long .ensures), start r .fits .budget)
-
-returns-3 : tie.Need-returns-3
-returns-3 c =
-    let l = second (c .before) in
-    let u = unended (l .before) in
-    let r = first (u .before) in
-    rw (c .behind .ensures) (rest-joined _ _ _ _ _ (r .run-steps .ensures) (u .if2 .left) (l .run-long .ensures))
+returns-2 c = c .before .before .before .before .before .run-short2 .ensures
 
 pub run-call-spec : {M : Type 1} → statement M
 run-call-spec =
     tie.close
     (tie.spec
+    (search needs)
+    run-short-requires
+    (search needs)
+    (search needs)
     returns
     (search needs)
-    run-steps-requires
+    run-short-requires-2
     (search needs)
     (search needs)
-    returns-2
-    sub-run-long
-    run-long-requires
-    behind-requires
-    (search needs)
-    (search needs)
-    returns-3)
+    returns-2)

@@ -24,7 +24,7 @@ abbrev μ-loop : tie.MeasureT-loop
 -- ---- places
 
 abbrev begun : tie.After-read-ahead-arg2 Inv-loop μ-loop → tie.Start Inv-loop μ-loop
-begun c = c .before .before .before .before .before .before .before .before
+begun c = c .before .before .before .before .before .before .before .before .before
 
 abbrev start : tie.After-read-ahead Inv-loop μ-loop → tie.Start Inv-loop μ-loop
 start c = begun (c .before)
@@ -32,8 +32,11 @@ start c = begun (c .before)
 abbrev returned : tie.At-loop Inv-loop μ-loop → tie.After-list Inv-loop μ-loop
 returned c = c .before .before .before .before .before
 
+abbrev read : tie.After-list Inv-loop μ-loop → tie.After-read-ahead Inv-loop μ-loop
+read c = c .before .before .before
+
 abbrev batch : tie.At-loop Inv-loop μ-loop → tie.After-read-ahead Inv-loop μ-loop
-batch c = returned c .before
+batch c = read (returned c)
 
 abbrev turn : tie.After-request-at Inv-loop μ-loop → tie.In-loop Inv-loop μ-loop
 turn c = c .before .before
@@ -44,13 +47,13 @@ in-hand c = c .before .before .before .before .before .before
 abbrev request : tie.After-file Inv-loop μ-loop → tie.After-request-at Inv-loop μ-loop
 request c = in-hand (c .before)
 
-abbrev written : tie.After-slice-known6 Inv-loop μ-loop → tie.After-file Inv-loop μ-loop
+abbrev written : tie.After-slice-known8 Inv-loop μ-loop → tie.After-file Inv-loop μ-loop
 written c = c .before .before .before .before
 
-abbrev stopped : tie.After-advance-of Inv-loop μ-loop → tie.After-slice-known6 Inv-loop μ-loop
+abbrev stopped : tie.After-advance-of Inv-loop μ-loop → tie.After-slice-known8 Inv-loop μ-loop
 stopped c = c .before .before .before .before
 
-abbrev moved : tie.After-known-told Inv-loop μ-loop → tie.After-slice-known6 Inv-loop μ-loop
+abbrev moved : tie.After-known-told Inv-loop μ-loop → tie.After-slice-known8 Inv-loop μ-loop
 moved c = c .before .before .before
 
 -- ---- what is known there
@@ -69,6 +72,10 @@ known c = c .loop .inv .all _ (batch c .read-ahead .ensures) (start (batch c) .p
 long : (c : tie.At-loop Inv-loop μ-loop) → length (list (batch c)) ≡ length (start (batch c) .args .list .now)
 long c = returned c .list .given
 
+-- no more are read than there are places for
+few : (c : tie.At-loop Inv-loop μ-loop) → batch c .read-ahead .result .records ≤ 16
+few c = omega (arith, batch c .read-ahead .ensures .few, returned c .before .before .requests .given, start (batch c) .pre .1 .few)
+
 -- the hashes of the request in hand
 within : (c : tie.After-request-at Inv-loop μ-loop) → turn c .before .loop .first + c .request-at .result .items ≤ length (list (batch (turn c .before)))
 within c =
@@ -83,25 +90,25 @@ read-ahead-requires c κs =
     (p .0 .geometry, p .0 .within, listed-of _ _ (p .0 .ready), p .1)
 
 slice-reshare-prefix-slots-bad : tie.Need-slice-reshare-prefix-slots-bad Inv-loop μ-loop
-slice-reshare-prefix-slots-bad c = c .before .before .before .read-ahead .ensures .fits
+slice-reshare-prefix-slots-bad c = read (c .before .before) .read-ahead .ensures .fits
 
 slice-aggregate-slots-bad : tie.Need-slice-aggregate-slots-bad Inv-loop μ-loop
-slice-aggregate-slots-bad c = sym (length-take-le _ _ (c .before .before .before .before .read-ahead .ensures .fits))
+slice-aggregate-slots-bad c = sym (length-take-le _ _ (read (c .before .before .before) .read-ahead .ensures .fits))
 
 slots-bad-requires : tie.Need-slots-bad-requires Inv-loop μ-loop
-slots-bad-requires c κs = let y = start (c .before .before .before .before) .pre .0 .ready .sized in (y .some, y .most, omega (arith, y .long))
+slots-bad-requires c κs = let y = start (read (c .before .before .before)) .pre .0 .ready .sized in (y .some, y .most, omega (arith, y .long))
 
 loop-holds : tie.Need-loop-holds Inv-loop μ-loop
 loop-holds c = underway-start _ _ _ _ _ _ _ _ (c .slots-bad .ensures) refl
 
 request-at-requires : tie.Need-request-at-requires Inv-loop μ-loop
-request-at-requires c κs = omega (arith, batch (c .before .before) .read-ahead .ensures .few)
+request-at-requires c κs = omega (arith, c .before .loop-test .taken, batch (c .before .before) .read-ahead .ensures .few)
 
 add-end : tie.Need-add-end Inv-loop μ-loop
-add-end c = let t = turn (c .before) .before in omega (arith, within (c .before), long t, start (batch t) .pre .2)
+add-end c = let t = turn (c .before) .before in omega (arith, within (c .before), long t, start (batch t) .pre .1 .bound)
 
 mul-file : tie.Need-mul-file Inv-loop μ-loop
-mul-file c = let t = turn (c .before) .before in omega (arith, within (c .before), long t, start (batch t) .pre .2)
+mul-file c = let t = turn (c .before) .before in omega (arith, within (c .before), long t, start (batch t) .pre .1 .bound)
 
 part-file-end : tie.Need-part-file-end Inv-loop μ-loop
 part-file-end c = omega (arith, within (c .before .before))
@@ -110,7 +117,7 @@ file-requires : tie.Need-file-requires Inv-loop μ-loop
 file-requires c κs =
     let q = in-hand c in
     let t = turn q .before in
-    turn-fileable _ _ _ _ _ _ _ (batch t .read-ahead .ensures) _ _ _ _ _ (known t) (turn q .loop-test .taken) _ (q .request-at .ensures) (omega (arith, long t, start (batch t) .pre .2))
+    turn-fileable _ _ _ _ _ _ _ (batch t .read-ahead .ensures) _ _ _ _ _ (known t) (turn q .loop-test .taken) _ (q .request-at .ensures) (omega (arith, long t, start (batch t) .pre .1 .bound))
 
 same-length : tie.Need-same-length Inv-loop μ-loop
 same-length c =
@@ -123,7 +130,10 @@ same-length-2 c =
     k .before .index .given ∙ turn (request (written k)) .before .loop .inv .indexed
 
 same-length-3 : tie.Need-same-length-3 Inv-loop μ-loop
-same-length-3 c = long (turn (request (written (stopped c))) .before)
+same-length-3 c = returned (turn (request (written (stopped c))) .before) .before .before .requests .given
+
+same-length-4 : tie.Need-same-length-4 Inv-loop μ-loop
+same-length-4 c = long (turn (request (written (stopped c))) .before)
 
 returns : tie.Need-returns Inv-loop μ-loop
 returns c =
@@ -135,7 +145,7 @@ returns c =
 add-done : tie.Need-add-done Inv-loop μ-loop
 add-done c =
     let i = turn (request (written (moved c))) in
-    omega (arith, i .loop-test .taken, batch (i .before) .read-ahead .ensures .few)
+    omega (arith, i .loop-test .taken, few (i .before))
 
 loop-less : tie.Need-loop-less Inv-loop μ-loop
 loop-less c = let i = turn (request (written (moved c))) in omega (arith, i .loop-test .taken)
@@ -151,18 +161,21 @@ pass-requires : tie.Need-pass-requires Inv-loop μ-loop
 pass-requires c κs =
     let t = c .before in
     let p = start (batch t) .pre .0 in (
-      omega (arith, t .loop .inv .few, batch t .read-ahead .ensures .few),
+      omega (arith, t .loop .inv .few, few t),
       λ n e. omega (arith, pass-low _ _ _ _ _ _ _ (batch t .read-ahead .ensures) _ _ _ _ _ (known t) (c .loop-test .left) n refl e, p .within .end, p .geometry .top),
     )
 
-same-length-4 : tie.Need-same-length-4 Inv-loop μ-loop
-same-length-4 c = c .before .before .loop .inv .queued
-
 same-length-5 : tie.Need-same-length-5 Inv-loop μ-loop
-same-length-5 c = c .before .before .loop .inv .indexed
+same-length-5 c = c .before .before .loop .inv .queued
 
 same-length-6 : tie.Need-same-length-6 Inv-loop μ-loop
-same-length-6 c = long (c .before .before)
+same-length-6 c = c .before .before .loop .inv .indexed
+
+same-length-7 : tie.Need-same-length-7 Inv-loop μ-loop
+same-length-7 c = returned (c .before .before) .before .before .requests .given
+
+same-length-8 : tie.Need-same-length-8 Inv-loop μ-loop
+same-length-8 c = long (c .before .before)
 
 returns-2 : tie.Need-returns-2 Inv-loop μ-loop
 returns-2 c =
@@ -193,12 +206,14 @@ advance-spec =
     same-length
     same-length-2
     same-length-3
+    same-length-4
     returns
     add-done
     loop-less
     loop-again
     pass-requires
-    same-length-4
     same-length-5
     same-length-6
+    same-length-7
+    same-length-8
     returns-2)
