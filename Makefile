@@ -12,7 +12,7 @@
 #
 # SWISTOPAL_LIB_DIR names another archive's directory, LISTER another lister: both must be there already.
 
-VERSION = 0.2.0
+VERSION = 0.3.0
 PREFIX ?= /usr/local
 DESTDIR ?=
 CFLAGS ?= -O2
@@ -33,13 +33,14 @@ sources := crates.txt $(shell find crates -name '*.rt' -o -name '*.antt')
 .PHONY: all tour install example compare mutants bench interface cli
 all: $(archive)
 
-# Two objects, each proved: the operations, and the functions that tell what a record makes. Apart, they leave the compiler free to take what dispatch
-# calls into its loop.
+# Three objects, each proved: the operations, the report of a stretch, and the functions that tell what a record makes. Apart, they leave the compiler
+# free to take what dispatch and the report call into their loops.
 $(built_lib_dir)/libswistopal.a: $(sources)
 	rt staticlib swistopal
+	rt staticlib swistopal_stretch
 	rt staticlib swistopal_facts
 	rm -rf $(@D) && mkdir -p $(@D)
-	cd $(@D) && ar x ../staticlib/libswistopal.a && ar x ../staticlib/libswistopal_facts.a && ar rcsD $(@F).part *.o && rm *.o && mv $(@F).part $(@F)
+	cd $(@D) && ar x ../staticlib/libswistopal.a && ar x ../staticlib/libswistopal_stretch.a && ar x ../staticlib/libswistopal_facts.a && ar rcsD $(@F).part *.o && rm *.o && mv $(@F).part $(@F)
 
 $(built_lister): $(sources)
 	rt check lister

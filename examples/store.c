@@ -1,6 +1,6 @@
 /*
- * A parcel sorter's events in a store: append records until one rolls into the next segment, dispatch them, read a queue,
- * ask the index for one parcel. Every answer is checked; the program ends with 1 at the first one that is not expected.
+ * A parcel sorter's events in a store: append records until one rolls into the next segment, report them, dispatch them,
+ * read a queue, ask the index for one parcel. Every answer is checked; the program ends with 1 at the first one that is not expected.
  * It is C11 and C++17.
  */
 #include <stdio.h>
@@ -104,6 +104,16 @@ int main(void)
         return 1;
     printf("record at 0: %llu bytes, stored at %llu, body \"%.*s\"\n", (unsigned long long)record.total,
            (unsigned long long)record.fields.store_time, (int)record.body.length, (const char *)store_log + record.body.at);
+
+    /* The log alone tells the shift in figures, before anything is dispatched. */
+    swistopal_figures figures;
+    answer = swistopal_report(
+        store_log, sizeof store_log, &sizes, 0, write_position, directory, sizeof directory, &figures);
+    if (!expect("report", answer, SWISTOPAL_DONE) || figures.rows[0] != EVENTS || figures.blanks != rolls)
+        return 1;
+    printf("report: %llu records of %llu to %llu bytes, %llu blank, %llu index items\n", (unsigned long long)figures.records,
+           (unsigned long long)figures.smallest, (unsigned long long)figures.largest, (unsigned long long)figures.blanks,
+           (unsigned long long)figures.items);
 
     /* Five steps, then the rest: the call may be cut anywhere. The blank is a step too. */
     swistopal_progress progress;

@@ -1,8 +1,9 @@
 /*
  * Swistopal: RocketMQ's commit log, consume queues and index file on lent buffers.
  *
- * Six operations, and six small functions that tell what a record makes. Each is total: any numbers and any bytes bring
- * an answer. The answer and every lent byte afterwards depend on the arguments alone; nothing is kept between calls.
+ * Seven operations, and six small functions that tell what a record makes. Each is total: any numbers and any bytes
+ * bring an answer. The answer and every lent byte afterwards depend on the arguments alone; nothing is kept between
+ * calls.
  *
  * A buffer is a pointer and a length. The pointer of a buffer of length 0 may be anything that is not null. A pointer
  * to a struct or to a single number is never null.
@@ -101,6 +102,15 @@ typedef struct swistopal_record {
 typedef struct swistopal_found {
     uint64_t positions, items_read;
 } swistopal_found;
+
+/* A stretch of the log in figures. A row is one of the directory's; rows that it does not have are 0. */
+typedef struct swistopal_figures {
+    uint64_t records, blanks, body_bytes;
+    uint64_t smallest, largest;                /* of the records' totals; both 0 without a record */
+    uint64_t rows[16], unlisted;               /* records of any type, by their queue */
+    uint64_t none, prepared, commit, rollback; /* records by their transaction type */
+    uint64_t items;                            /* index items of all records but rollbacks */
+} swistopal_figures;
 
 /* Where the three values that matter stand in a record's properties; length 0 where there is none. */
 typedef struct swistopal_values {
@@ -243,6 +253,26 @@ uint32_t swistopal_query(
  * text and written are written: neither may overlap the other or segment.
  */
 uint32_t swistopal_list(const uint8_t *segment, size_t segment_len, uint8_t *text, size_t text_len, uint64_t *written);
+
+/*
+ * Report a stretch of the log in figures: its records and blanks from position on, up to readable_end or to where one
+ * cannot be read. Nothing but log and directory is looked at, so it can be asked before anything is dispatched.
+ *
+ * Refusals, judged in this order:
+ *   1   S, B or log_len
+ *   3   directory
+ *   2   not B <= position <= readable_end <= B + log_len
+ * Stops:
+ *   0   at readable_end
+ *   8 or 10  as in swistopal_read_record
+ * On a refusal every figure is 0. On a stop the figures are those of what stands before it; what stops it is not in
+ * them. The figures of neighbouring stretches, the first of which stops with 0, add up, but for smallest and largest.
+ *
+ * figures is written and must not overlap anything else that is passed.
+ */
+uint32_t swistopal_report(
+    const uint8_t *log, size_t log_len, const swistopal_sizes *sizes, uint64_t position, uint64_t readable_end,
+    const uint8_t *directory, size_t directory_len, swistopal_figures *figures);
 
 /*
  * What a record makes, so that no other program has to repeat a rule. None of these has an answer: the number returned is

@@ -20,9 +20,7 @@ fn main() {
     let archive = directory.join(ARCHIVE);
     if !archive.is_file() {
         eprintln!("no {ARCHIVE} in {} ({origin})", directory.display());
-        eprintln!(
-            "`make` at the repository's root makes target/lib/{ARCHIVE};"
-        );
+        eprintln!("`make` at the repository's root makes target/lib/{ARCHIVE};");
         eprintln!(
             "to link another one, set SWISTOPAL_LIB_DIR to its directory, as an absolute path"
         );

@@ -65,6 +65,24 @@ pub struct Found {
     pub items_read: u64,
 }
 
+/// A stretch of the log in figures, as `swistopal_figures` of include/swistopal.h tells them.
+#[derive(Clone, Copy, Debug, Default, PartialEq, Eq)]
+#[repr(C)]
+pub struct Figures {
+    pub records: u64,
+    pub blanks: u64,
+    pub body_bytes: u64,
+    pub smallest: u64,
+    pub largest: u64,
+    pub rows: [u64; 16],
+    pub unlisted: u64,
+    pub none: u64,
+    pub prepared: u64,
+    pub commit: u64,
+    pub rollback: u64,
+    pub items: u64,
+}
+
 /// Where the three values that matter stand in a record's properties.
 #[derive(Clone, Copy, Debug, Default, PartialEq, Eq)]
 #[repr(C)]
@@ -157,6 +175,17 @@ extern "C" {
         text: *mut u8,
         text_len: usize,
         written: *mut u64,
+    ) -> u32;
+
+    pub fn swistopal_report(
+        log: *const u8,
+        log_len: usize,
+        sizes: *const Sizes,
+        position: u64,
+        readable_end: u64,
+        directory: *const u8,
+        directory_len: usize,
+        figures: *mut Figures,
     ) -> u32;
 
     pub fn swistopal_tag_code(tag: *const u8, tag_len: usize) -> u64;

@@ -1,7 +1,7 @@
 //! RocketMQ's commit log, consume queues and index file on lent buffers.
 //!
-//! Six calls: [`append`], [`read_record`], [`dispatch`], [`read_queue`], [`query`], [`list`]. Each takes any numbers and any
-//! bytes and brings an [`Answer`]. A refusal, which changes nothing, is an `Err`; a stop that keeps its work is an `Ok`
+//! Seven calls: [`append`], [`read_record`], [`dispatch`], [`read_queue`], [`query`], [`list`], [`report`]. Each takes any
+//! numbers and any bytes and brings an [`Answer`]. A refusal, which changes nothing, is an `Err`; a stop that keeps its work is an `Ok`
 //! with the answer in it.
 //!
 //! Six small functions tell what a record makes and whether an index is sound: [`tag_code`], [`makes_entry`],
@@ -65,6 +65,7 @@ mod message;
 mod sizes;
 
 pub use answer::Answer;
+pub use archive::Figures;
 pub use makes::{find_values, has_item, item_count, makes_entry, tag_code, Values};
 pub use message::{Entry, Fields, Message};
 pub use sizes::{directory, LogPosition, Progress, QueueOffset, Sizes, ENTRY_BYTES};
@@ -477,5 +478,70 @@ pub fn list<'t>(segment: &[u8], text: &'t mut [u8]) -> Result<Listing<'t>, Answe
             stop,
             text: &text[..written as usize],
         }),
+    }
+}
+
+/// How far a report came: the figures are those of what stands before the stop.
+#[derive(Clone, Copy, Debug, PartialEq, Eq)]
+pub struct Reported {
+    /// [`Answer::Done`] at the readable end, [`Answer::NotReadable`] or [`Answer::Damaged`] where a record is neither.
+    pub stop: Answer,
+    pub figures: Figures,
+}
+
+/// Reports a stretch of the log in figures, from a position to the readable end. Of the sizes it looks at the segment size
+/// and the first position.
+///
+/// ```
+/// use swistopal::*;
+///
+/// # fn main() -> Result<(), Answer> {
+/// let sizes = Sizes { segment_size: 1024, ..Sizes::default() };
+/// let mut log = vec![0; 1024];
+/// let mut end = LogPosition(0);
+/// let listed = Message { topic: b"T", body: b"chute 9", properties: b"UNIQ_KEY\x01u", ..Message::default() };
+/// append(&mut log, &sizes, &listed, &mut end)?;
+/// let prepared = Fields { queue_id: 3, system_flag: 4, ..Fields::default() };
+/// append(&mut log, &sizes, &Message { fields: prepared, ..listed }, &mut end)?;
+///
+/// let directory = directory(&[(b"T", 0)]);
+/// let reported = report(&log, &sizes, LogPosition(0), end, &directory)?;
+/// assert_eq!(reported.stop, Answer::Done);
+/// let figures = reported.figures;
+/// assert_eq!((figures.records, figures.rows[0], figures.unlisted), (2, 1, 1));
+/// assert_eq!((figures.none, figures.prepared, figures.items), (1, 1, 2));
+/// assert_eq!((figures.body_bytes, figures.smallest, figures.largest), (14, 109, 109));
+///
+/// let cut = report(&log, &sizes, LogPosition(0), LogPosition(end.0 - 1), &directory)?;
+/// assert_eq!((cut.stop, cut.figures.records), (Answer::NotReadable, 1));
+/// assert_eq!(report(&log, &sizes, end, LogPosition(0), &directory), Err(Answer::BadPosition));
+/// assert_eq!(report(&log, &sizes, end, LogPosition(0), b""), Err(Answer::BadDirectory));
+/// # Ok(())
+/// # }
+/// ```
+pub fn report(
+    log: &[u8],
+    sizes: &Sizes,
+    position: LogPosition,
+    readable_end: LogPosition,
+    directory: &[u8],
+) -> Result<Reported, Answer> {
+    let mut figures = Figures::default();
+    // SAFETY: every pointer is a slice's or a reference's; what is written is borrowed alone.
+    let number = unsafe {
+        archive::swistopal_report(
+            log.as_ptr(),
+            log.len(),
+            &sizes.lent(),
+            position.0,
+            readable_end.0,
+            directory.as_ptr(),
+            directory.len(),
+            &mut figures,
+        )
+    };
+    match Answer::returned(number) {
+        refusal @ (Answer::BadSizes | Answer::BadPosition | Answer::BadDirectory) => Err(refusal),
+        stop => Ok(Reported { stop, figures }),
     }
 }

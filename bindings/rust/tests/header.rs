@@ -124,14 +124,14 @@ fn functions_of_the_archive() -> Vec<Declared> {
 #[test]
 fn structs_are_the_headers() {
     let declared = structs_of_the_header(&header());
-    assert_eq!(declared.len(), 7);
+    assert_eq!(declared.len(), 8);
     assert_eq!(structs_of_the_archive(), declared);
 }
 
 #[test]
 fn functions_are_the_headers() {
     let declared = functions_of_the_header(&header());
-    assert_eq!(declared.len(), 12);
+    assert_eq!(declared.len(), 13);
     assert_eq!(functions_of_the_archive(), declared);
 }
 

@@ -9,20 +9,24 @@ use Rattle.properties.specs.Finder.{pairValue, values, also, foundIn, finder, s
 use Rattle.properties.specs.Keys.{filledPlaces, keysFrom, keyPlaces}
 use Rattle.directory.specs.Directory.{rowLength, rowKind, rowId, rowQueue, kindOk, rowOk, before, rowsWithin, names, rowFrom, listed, distinct, distinctRows, queues, counted, rowCount, rowOf}
 use Rattle.record.specs.Record.{fieldsOf, bodyLength, topicLength, propertiesLength, messageOf, lengthsFit, hostBitsClear, fieldsSound, textRules, rulesHold, soundOver, isSound, isHere, headOf, headAt, headed, entryAt}
-use Rattle.record_writer.specs.Encode.{front, hosts, back, tail, encode}
+use Rattle.record_writer.specs.Encode.{front, hosts, back, tail, encode, blank}
 use Rattle.record_writer.specs.Writing.{fieldsFit, hostsFit}
 use Rattle.commit_log.specs.Log.{geometryOk, segmentRest, outside, seen, entryWithin, misplaced, requestOk, placed, appended}
+use Rattle.commit_log.specs.Stretch.{endsWith, prepend, walkOn, entriesOf, stretch}
 use Rattle.consume_queue.specs.Queue.{entriesOk, fitted, queueRows, countsOk, entryPlace, entryBytes}
 use Rattle.index_file.specs.Index.{sizesOk, untouched, headerSound, itemBytes, secondsOf, headerAfter, itemFor, filledAfter, put}
 use Rattle.consume_queue.specs.Entering.{entryAnswer, enteredQueues, enteredCounts}
 use Rattle.index_file.specs.Items.{isAhead, isFull, badSlot, anyBadSlot, itemsAnswer, putAll}
 use Rattle.machine.specs.Steps.{run, ranFrom, oneMore}
 use Rattle.machine.specs.Calls.{call, admit}
-use Rattle.dispatch_request.specs.Request.{transaction, makesEntry, makesItems, rowNumber, tagOf, isFound, uniqueKey, keysAt, keysIn, itemKeys, itemHashes, recordHashes, requestOf, standsAs, standsAt, madeOf}
+use Rattle.dispatch_request.specs.Request.{transaction, makesEntry, makesItems, rowNumber, tagOf, isFound, uniqueKey, keysAt, keysIn, itemKeys, itemHashes, recordKeys, recordHashes, requestOf, standsAs, standsAt, madeOf}
 use Rattle.dispatch_step.specs.Step.{unless, written, filed, movedBy, stepAs, stepOf}
 use Rattle.dispatch.specs.Dispatch.{sizesFit, isRefused, progressBad, doorOf}
+use Rattle.shift_report.specs.Figures.{ofEither, add, only, recordFigures, figuresAt, figuresOf, tabled, asNumbers}
+use Rattle.shift_report.specs.Report.{refusedReport, reportOf, rowsReport, shiftReport}
 use Rattle.acceptance.specs.Bench.{bench, BenchHolds}
 use Rattle.acceptance.specs.Examples.{property-examples, hash-examples, directory-examples, rows, examples, ExamplesHold}
+use Rattle.acceptance.specs.Reports.{report-examples, ReportsHold}
 
 pub bench-holds : BenchHolds
 unfolding bench pick bytesOf units hashFrom hashOf signed carried tagCode absolute indexHash appended geometryOk misplaced requestOk placed segmentRest fieldsSound hostBitsClear textRules secondsOf putAll put headerAfter filledAfter itemFor itemBytes overwrite layout pieceBytes valueOf part field slotOf itemHashes itemKeys keysIn keysAt uniqueKey isFound scanned finder foundIn also values pairValue parts onto filled place bytesAt foundBytes same filledPlaces keysFrom keyPlaces itemsAnswer isAhead isFull badSlot anyBadSlot headerSound sizesOk untouched fieldsFit hostsFit encode front hosts back tail call admit run ranFrom oneMore sizesFit isRefused progressBad doorOf transaction makesEntry makesItems rowNumber tagOf recordHashes requestOf madeOf standsAs standsAt entryAnswer enteredQueues enteredCounts unless written filed movedBy stepAs stepOf entriesOk fitted queueRows countsOk entryPlace entryBytes outside seen entryWithin fieldsOf bodyLength topicLength propertiesLength messageOf lengthsFit rulesHold soundOver isSound isHere headOf headAt headed entryAt rowLength rowKind rowId rowQueue kindOk rowOk before rowsWithin names rowFrom listed distinct distinctRows queues counted rowCount rowOf
@@ -31,3 +35,7 @@ bench-holds = refl
 pub examples-hold : ExamplesHold
 unfolding examples property-examples hash-examples directory-examples rows pick bytesOf valueOf part field same units hashFrom signed absolute indexHash onto parts filled bytesAt place pairValue values also foundIn finder foundBytes filledPlaces keysFrom keyPlaces rowLength rowKind rowId rowQueue kindOk rowOk before rowsWithin names rowFrom listed distinct distinctRows queues counted rowCount rowOf
 examples-hold = refl
+
+pub reports-hold : ReportsHold
+unfolding report-examples shiftReport rowsReport reportOf refusedReport asNumbers tabled figuresOf figuresAt recordFigures only add ofEither stretch entriesOf walkOn prepend endsWith pick bytesOf appended geometryOk misplaced requestOk placed segmentRest fieldsSound hostBitsClear textRules overwrite layout pieceBytes valueOf part field itemKeys keysIn keysAt uniqueKey isFound scanned finder foundIn also values pairValue parts onto filled place bytesAt foundBytes same filledPlaces keysFrom keyPlaces fieldsFit hostsFit blank encode front hosts back tail transaction makesItems rowNumber recordKeys outside seen entryWithin fieldsOf bodyLength topicLength propertiesLength messageOf lengthsFit rulesHold soundOver isSound isHere headOf headAt headed entryAt rowLength rowKind rowId rowQueue kindOk rowOk before rowsWithin names rowFrom listed distinct distinctRows queues counted rowCount rowOf
+reports-hold = refl

@@ -1,7 +1,7 @@
 //! The operations behind one set of signatures, those of the C interface: each side is a table of functions, and what
 //! calls them is the same code for every side.
 
-use crate::archive::{self, Fields, Found, Place, Progress, Record, Sizes};
+use crate::archive::{self, Fields, Figures, Found, Place, Progress, Record, Sizes};
 use crate::plain;
 
 pub type Append = unsafe extern "C" fn(
@@ -74,6 +74,17 @@ pub type Query = unsafe extern "C" fn(
     *mut Found,
 ) -> u32;
 
+pub type Report = unsafe extern "C" fn(
+    *const u8,
+    usize,
+    *const Sizes,
+    u64,
+    u64,
+    *const u8,
+    usize,
+    *mut Figures,
+) -> u32;
+
 /// One side.
 pub struct Store {
     append: Append,
@@ -81,6 +92,7 @@ pub struct Store {
     dispatch: Dispatch,
     read_queue: ReadQueue,
     query: Query,
+    report: Report,
 }
 
 pub const ARCHIVE: Store = Store {
@@ -89,6 +101,7 @@ pub const ARCHIVE: Store = Store {
     dispatch: archive::swistopal_dispatch,
     read_queue: archive::swistopal_read_queue,
     query: archive::swistopal_query,
+    report: archive::swistopal_report,
 };
 
 pub const PLAIN: Store = Store {
@@ -97,6 +110,7 @@ pub const PLAIN: Store = Store {
     dispatch: plain::dispatch::dispatch,
     read_queue: plain::queue::read_queue,
     query: plain::index::query,
+    report: plain::report::report,
 };
 
 /// Plain Rust whose dispatch reads ahead.
@@ -330,5 +344,24 @@ impl Store {
             )
         };
         (answer, found)
+    }
+
+    /// The answer and the figures of a log from its start on.
+    #[inline(always)]
+    pub fn report(&self, log: &Log, readable_end: u64, directory: &[u8]) -> (u32, Figures) {
+        let mut figures = Figures::default();
+        let answer = unsafe {
+            (self.report)(
+                log.bytes.as_ptr(),
+                log.bytes.len(),
+                &log.sizes,
+                log.sizes.first_position,
+                readable_end,
+                directory.as_ptr(),
+                directory.len(),
+                &mut figures,
+            )
+        };
+        (answer, figures)
     }
 }

@@ -8,9 +8,11 @@ mod keys;
 mod query;
 mod queue;
 mod read;
+mod report;
 
 use crate::effort::Effort;
-use crate::report::{self, Point, Row};
+use crate::report as table;
+use crate::report::{Point, Row};
 
 /// What a job gives: rows with a ratio, or points of a series.
 enum Job {
@@ -19,16 +21,18 @@ enum Job {
 }
 
 /// Those with rows first, since each kind has its table.
-const JOBS: [(&str, Job); 9] = [
+const JOBS: [(&str, Job); 11] = [
     ("append", Job::Rows(append::run)),
     ("read", Job::Rows(read::run)),
     ("dispatch", Job::Rows(dispatch::run)),
     ("queue", Job::Rows(queue::run)),
     ("query", Job::Rows(query::run)),
     ("hash", Job::Rows(hash::run)),
+    ("report", Job::Rows(report::run)),
     ("growth", Job::Points(dispatch::run_growth)),
     ("budget", Job::Points(budget::run)),
     ("keys", Job::Points(keys::run)),
+    ("stretch", Job::Points(report::run_stretch)),
 ];
 
 pub fn names() -> impl Iterator<Item = &'static str> {
@@ -51,15 +55,15 @@ pub fn run(effort: Effort, only: Option<&str>) {
         match job {
             Job::Rows(run) => {
                 if !std::mem::replace(&mut rows_started, true) {
-                    report::start_rows();
+                    table::start_rows();
                 }
-                run(effort, &mut |row| report::row(&row));
+                run(effort, &mut |row| table::row(&row));
             }
             Job::Points(run) => {
                 if !std::mem::replace(&mut points_started, true) {
-                    report::start_points();
+                    table::start_points();
                 }
-                run(effort, &mut |point| report::point(&point));
+                run(effort, &mut |point| table::point(&point));
             }
         }
     }

@@ -18,13 +18,9 @@ pub struct Directory<'a> {
 }
 
 impl<'a> Directory<'a> {
-    /// Door check 3.
+    /// Door check 3, of the directory alone.
     #[inline(always)]
-    pub fn read(
-        directory: &'a [u8],
-        queue_entries: u64,
-        queues_len: usize,
-    ) -> Option<Directory<'a>> {
+    pub fn read(directory: &'a [u8]) -> Option<Directory<'a>> {
         let mut read = Directory {
             bytes: directory,
             rows: [Row::default(); MOST_ROWS],
@@ -54,9 +50,19 @@ impl<'a> Directory<'a> {
             read.count += 1;
             at += size;
         }
+        (read.count != 0).then_some(read)
+    }
+
+    /// Door check 3, with the queues.
+    #[inline(always)]
+    pub fn with_queues(
+        directory: &'a [u8],
+        queue_entries: u64,
+        queues_len: usize,
+    ) -> Option<Directory<'a>> {
         let right =
-            read.count != 0 && queues_len as u64 == read.count as u64 * queue_entries * ENTRY;
-        right.then_some(read)
+            |read: &Directory| queues_len as u64 == read.count as u64 * queue_entries * ENTRY;
+        Directory::read(directory).filter(right)
     }
 
     #[inline(always)]

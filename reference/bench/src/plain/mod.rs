@@ -13,6 +13,7 @@ pub mod index;
 mod properties;
 pub mod queue;
 pub mod record;
+pub mod report;
 pub mod trace;
 
 /// Answer numbers.

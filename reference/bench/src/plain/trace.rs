@@ -37,7 +37,7 @@ pub struct Followed {
 
 impl Trace {
     pub fn of(log: &Log, readable_end: u64, filed: &Filed) -> Trace {
-        let directory = Directory::read(
+        let directory = Directory::with_queues(
             &filed.directory,
             filed.sizes.queue_entries,
             filed.queues.len(),
