@@ -108,7 +108,7 @@ pub fn run_list(bench: &mut Bench, random: &Random, store: &mut Store) -> Check<
 }
 
 /// The readable end never falls.
-fn next_end(random: &Random, store: &Store, named_end: u64) -> u64 {
+pub fn next_end(random: &Random, store: &Store, named_end: u64) -> u64 {
     let written_end = store.written_end.max(named_end);
     let entry = match store.entries.as_slice() {
         [] => written_end,

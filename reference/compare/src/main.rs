@@ -5,6 +5,7 @@
 #[allow(dead_code)]
 #[path = "../../../bindings/rust/src/archive.rs"]
 mod archive;
+mod figures;
 mod functions;
 mod items;
 mod judge;
@@ -13,6 +14,7 @@ mod lists;
 mod messages;
 mod operations;
 mod random;
+mod reports;
 mod requests;
 mod scenarios;
 mod store;
@@ -207,8 +209,8 @@ fn say_difference(seed: u64, scenario: u64, difference: &Difference) {
     println!("this scenario alone: compare --seed {seed} --only {scenario}");
 }
 
-/// Counts by operation and outcome. Fails where an operation did not come to an outcome that it can give, or a fault of a
-/// request was not tried alone at some place.
+/// Counts by operation and outcome. Fails where an operation did not come to an outcome that it can give, a fault of a
+/// request was not tried alone at some place, or no neighbouring stretches came to a stop that a report can have.
 fn report(counts: &Counts, count: u64, time: Duration) -> ExitCode {
     let mut missed = Vec::new();
     for operation in Operation::ALL {
@@ -242,6 +244,8 @@ fn report(counts: &Counts, count: u64, time: Duration) -> ExitCode {
         lists.none_accepted,
         lists.refused_between
     );
+    println!("{}", counts.neighbours.said());
+    missed.extend(counts.neighbours.missed());
     let rate = count as f64 / time.as_secs_f64().max(0.001);
     println!("{count} scenarios, 0 differences, {rate:.0} a second");
     if missed.is_empty() {

@@ -1,4 +1,5 @@
-//! The six operations, each through the C interface and through the model, and the comparison of all they leave.
+//! The operations but the report, each through the C interface and through the model, and the comparison of all they
+//! leave.
 
 use std::fmt::Display;
 
@@ -6,6 +7,7 @@ use model::interface::{self, Fields, Found, Progress, Record, Sizes};
 use model::record::Message;
 
 use crate::archive;
+use crate::figures::NeighbourCounts;
 use crate::judge::{shown, Check, Judge, ARCHIVE_AND_MODEL};
 use crate::lent::{Lent, Twin};
 use crate::random::Random;
@@ -20,6 +22,7 @@ pub enum Operation {
     ReadQueue,
     Query,
     List,
+    Report,
     TagCode,
     MakesEntry,
     ItemCount,
@@ -29,13 +32,14 @@ pub enum Operation {
 }
 
 impl Operation {
-    pub const ALL: [Operation; 12] = [
+    pub const ALL: [Operation; 13] = [
         Operation::Append,
         Operation::ReadRecord,
         Operation::Dispatch,
         Operation::ReadQueue,
         Operation::Query,
         Operation::List,
+        Operation::Report,
         Operation::TagCode,
         Operation::MakesEntry,
         Operation::ItemCount,
@@ -52,6 +56,7 @@ impl Operation {
             Operation::ReadQueue => "read_queue",
             Operation::Query => "query",
             Operation::List => "list",
+            Operation::Report => "report",
             Operation::TagCode => "tag_code",
             Operation::MakesEntry => "makes_entry",
             Operation::ItemCount => "item_count",
@@ -71,6 +76,7 @@ impl Operation {
             Operation::ReadQueue => &[0, 1, 2, 3, 17],
             Operation::Query => &[0, 1, 4, 16, 17],
             Operation::List => &[0, 1, 10, 17],
+            Operation::Report => &[0, 1, 2, 3, 8, 10],
             Operation::TagCode => &[0, 1, 2],
             Operation::MakesEntry => &[0, 1],
             Operation::ItemCount => &[0, 1, 2],
@@ -100,13 +106,14 @@ impl Operation {
     }
 }
 
-/// How often an operation gave an outcome, how often requests were refused for one fault, and how many lists of dispatch
-/// calls were tried.
+/// How often an operation gave an outcome, how often requests were refused for one fault, how many lists of dispatch calls
+/// were tried, and how many neighbouring stretches were added up.
 #[derive(Clone, Default)]
 pub struct Counts {
-    pub outcomes: [[u64; 18]; 12],
+    pub outcomes: [[u64; 18]; Operation::ALL.len()],
     pub requests: RequestCounts,
     pub lists: ListCounts,
+    pub neighbours: NeighbourCounts,
 }
 
 /// Lists of dispatch calls, by what demand 3 says about them.
@@ -131,6 +138,7 @@ impl Counts {
             }
         }
         self.requests.add(&other.requests);
+        self.neighbours.add(&other.neighbours);
         let lists = &mut self.lists;
         lists.one_call += other.lists.one_call;
         lists.steps_only += other.lists.steps_only;

@@ -2,6 +2,7 @@
 
 use model::interface::{self, Place, Record, Sizes};
 
+use crate::figures::Stretch;
 use crate::items::{made_by_record, made_by_records};
 use crate::judge::Check;
 use crate::lent::Twin;
@@ -9,6 +10,7 @@ use crate::lists::run_list;
 use crate::messages::{Draft, KEYS, LARGEST_TIME, TOPICS};
 use crate::operations::{Bench, DispatchCall, Operation, Question, QueueReading};
 use crate::random::Random;
+use crate::reports::reports;
 use crate::requests::{requests, Fault};
 use crate::store::{row, Plan, Store, BLANK_MAGIC, LARGEST_POSITION};
 use crate::variation::Variation;
@@ -29,7 +31,8 @@ pub fn run(bench: &mut Bench, seed: u64, number: u64) -> Check<()> {
         return largest_record(bench);
     }
     match random.below(100) {
-        0..=41 => life(bench, random, false),
+        0..=34 => life(bench, random, false),
+        35..=41 => reports(bench, random),
         42..=48 => edges(bench, random),
         49..=62 => worn_index(bench, random),
         63..=79 => doors(bench, random),
@@ -95,21 +98,7 @@ fn life(bench: &mut Bench, random: &Random, wide: bool) -> Check<()> {
 /// Reads at the starts of records and blanks and around them, with readable ends around their own.
 fn read_records(bench: &mut Bench, random: &Random, store: &Store) -> Check<()> {
     for _ in 0..random.below(8) {
-        let position = match store.entries.as_slice() {
-            [] => store.sizes.first_position,
-            entries => random.pick(entries),
-        };
-        let position = match random.below(10) {
-            0 => position + random.below(100),
-            1 => store.sizes.first_position + random.below(store.log.len() as u64 + 1),
-            2 => {
-                let segments = store.log.len() as u64 / store.sizes.segment_size;
-                let segment_end = store.sizes.first_position
-                    + store.sizes.segment_size * random.between(1, segments);
-                segment_end - random.below(10)
-            }
-            _ => position,
-        };
+        let position = store.some_position(random);
         let whole = bench.read_record(&store.log, &store.sizes, position, store.log_end())?;
         let length = whole.1.total;
         let near =
@@ -148,23 +137,7 @@ fn edges(bench: &mut Bench, random: &Random) -> Check<()> {
         for _ in 0..random.pick(&[0, 1, 1, 1, 2]) {
             store.damage_entry(random, position);
         }
-        let at = store.place(position);
-        let total = &store.log.get()[at..at + 4];
-        let total = u64::from(u32::from_be_bytes(total.try_into().expect("4 bytes")));
-        let r = store.bytes_to_segment_end(position);
-        let room = store.log_end() - position;
-        for length in [
-            7,
-            8,
-            random.between(9, 91),
-            92,
-            total.max(1) - 1,
-            total,
-            r - 1,
-            r,
-            room,
-        ] {
-            let readable_end = position + length.min(room);
+        for readable_end in store.ends_around(random, position) {
             bench.read_record(&store.log, &store.sizes, position, readable_end)?;
             let mut state = store.state.clone();
             state.progress.set(0, &[position]);
@@ -722,7 +695,7 @@ fn log_doors(bench: &mut Bench, random: &Random, store: &Store) -> Check<()> {
     Ok(())
 }
 
-/// Directories of every make, read by both operations that take one.
+/// Directories of every make, read by the three operations that take one.
 fn directories(bench: &mut Bench, random: &Random) -> Check<()> {
     let plan = Plan::default();
     let mut store = Store::empty(random, plan);
@@ -789,6 +762,7 @@ fn directories(bench: &mut Bench, random: &Random) -> Check<()> {
         store.written_end = store.sizes.first_position;
         let mut state = store.state.clone();
         bench.dispatch(&store.call(random.pick(&[0, 1])), &mut state)?;
+        bench.report(&store.stretch(store.written_end, store.written_end))?;
         let counts = [random.pick(&[0, store.sizes.queue_entries]); 16];
         bench.read_queue(&QueueReading {
             queues: &store.state.queues,
@@ -845,6 +819,7 @@ fn listings(bench: &mut Bench, random: &Random) -> Check<()> {
 /// Records of 4,194,304 bytes and one more, in segments that are just too short for the first, just long enough, longer.
 fn largest_record(bench: &mut Bench) -> Check<()> {
     const LARGEST: u64 = 4_194_304;
+    let directory = Twin::new(&row(b"T", 0));
     for s in [LARGEST + 7, LARGEST + 8, LARGEST + 200] {
         let sizes = Sizes {
             segment_size: s,
@@ -859,6 +834,13 @@ fn largest_record(bench: &mut Bench) -> Check<()> {
             log.set(0, &(total as u32).to_be_bytes());
             for end in [8, total - 1, total, s] {
                 bench.read_record(&log, &sizes, 0, end.min(s))?;
+                bench.report(&Stretch {
+                    log: &log,
+                    sizes,
+                    directory: &directory,
+                    position: 0,
+                    readable_end: end.min(s),
+                })?;
             }
         }
     }
@@ -934,6 +916,13 @@ fn largest_sizes(bench: &mut Bench, random: &Random) -> Check<()> {
             &mut write_position,
         )?;
         bench.read_record(&log, &sizes, b + s - 500, b + s)?;
+        bench.report(&Stretch {
+            log: &log,
+            sizes,
+            directory: &directory,
+            position: b + s - 500,
+            readable_end: write_position,
+        })?;
     }
     for length in [1_023u32, 1_024, 65_535, 65_536, 65_537] {
         let mut segment = vec![0; length as usize];

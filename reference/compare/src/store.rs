@@ -2,6 +2,7 @@
 
 use model::interface::{Progress, Sizes};
 
+use crate::figures::Stretch;
 use crate::judge::Check;
 use crate::lent::Twin;
 use crate::messages::{odd_properties, properties, store_time, Draft, LARGEST_TIME, TOPICS};
@@ -64,12 +65,15 @@ pub fn row(topic: &[u8], queue_id: u32) -> Vec<u8> {
     row
 }
 
-fn random_rows(random: &Random) -> Vec<(Vec<u8>, u32)> {
-    let number = match random.below(20) {
-        0 => 16,
-        1 => random.between(5, 15),
-        _ => random.between(1, 4),
-    };
+pub fn directory(rows: &[(Vec<u8>, u32)]) -> Twin<u8> {
+    let rows: Vec<Vec<u8>> = rows
+        .iter()
+        .map(|(topic, queue_id)| row(topic, *queue_id))
+        .collect();
+    Twin::new(&rows.concat())
+}
+
+pub fn random_rows(random: &Random, number: u64) -> Vec<(Vec<u8>, u32)> {
     let mut rows: Vec<(Vec<u8>, u32)> = Vec::new();
     while (rows.len() as u64) < number {
         let mut topic = random.pick(&TOPICS).to_vec();
@@ -105,11 +109,12 @@ impl Store {
             let highest = LARGEST_POSITION / s - segments;
             (segments, s * random.pick(&[0, 0, 0, 1, 7, highest]))
         };
-        let rows = random_rows(random);
-        let directory: Vec<u8> = rows
-            .iter()
-            .flat_map(|(topic, queue_id)| row(topic, *queue_id))
-            .collect();
+        let row_count = match random.below(20) {
+            0 => 16,
+            1 => random.between(5, 15),
+            _ => random.between(1, 4),
+        };
+        let rows = random_rows(random, row_count);
         let queue_entries = if plan.roomy {
             80
         } else if random.one_in(3) {
@@ -149,7 +154,7 @@ impl Store {
             },
             written_end: b,
             entries: Vec::new(),
-            directory: Twin::new(&directory),
+            directory: directory(&rows),
             state: State {
                 progress: Twin::new(&progress.numbers()),
                 queues: Twin::new(&random.bytes(20 * queue_entries * rows.len() as u64)),
@@ -344,6 +349,54 @@ impl Store {
             directory: &self.directory,
             budget,
         }
+    }
+
+    pub fn stretch(&self, position: u64, readable_end: u64) -> Stretch<'_> {
+        Stretch {
+            log: &self.log,
+            sizes: self.sizes,
+            directory: &self.directory,
+            position,
+            readable_end,
+        }
+    }
+
+    /// Mostly where a record or blank starts, else a position in one, around a segment's end or anywhere; perhaps past the
+    /// log's end.
+    pub fn some_position(&self, random: &Random) -> u64 {
+        let entry = self.some_entry(random);
+        match random.below(10) {
+            0 => entry + random.below(100),
+            1 => self.sizes.first_position + random.below(self.log.len() as u64 + 1),
+            2 => {
+                let segments = self.log.len() as u64 / self.sizes.segment_size;
+                let segment_end = self.sizes.first_position
+                    + self.sizes.segment_size * random.between(1, segments);
+                segment_end - random.below(10)
+            }
+            _ => entry,
+        }
+    }
+
+    /// Readable ends around what stands at a position in the log, damaged or not.
+    pub fn ends_around(&self, random: &Random, position: u64) -> [u64; 9] {
+        let at = self.place(position);
+        let total = &self.log.get()[at..at + 4];
+        let total = u64::from(u32::from_be_bytes(total.try_into().expect("4 bytes")));
+        let r = self.bytes_to_segment_end(position);
+        let lengths = [
+            7,
+            8,
+            random.between(9, 91),
+            92,
+            total.max(1) - 1,
+            total,
+            r - 1,
+            r,
+            u64::MAX,
+        ];
+        let room = self.log_end() - position;
+        lengths.map(|length| position + length.min(room))
     }
 
     /// The record or blank that starts before the written end, at random.
