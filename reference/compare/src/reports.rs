@@ -35,7 +35,7 @@ pub fn reports(bench: &mut Bench, random: &Random) -> Check<()> {
 }
 
 fn reported_store(bench: &mut Bench, random: &Random) -> Check<Store> {
-    let wide = random.one_in(60);
+    let wide = random.one_in(40);
     let plan = Plan {
         wide,
         troubled: random.one_in(2),
@@ -58,9 +58,11 @@ fn reported_store(bench: &mut Bench, random: &Random) -> Check<Store> {
 
 /// Records of as many keys as fit, so that their items are more than 16 bits count.
 fn many_keys(bench: &mut Bench, random: &Random, store: &mut Store) -> Check<()> {
-    for _ in 0..random.between(1, 6) {
-        let mut draft = some_draft(random, store);
-        draft.properties = [&b"KEYS\x01"[..], &b"a ".repeat(16_381)].concat();
+    let draft = Draft {
+        properties: [&b"KEYS\x01"[..], &b"a ".repeat(16_381)].concat(),
+        ..some_draft(random, store)
+    };
+    for _ in 0..random.pick(&[1, 12, 12]) {
         store.append(bench, &draft)?;
     }
     Ok(())
