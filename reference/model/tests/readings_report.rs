@@ -244,6 +244,30 @@ fn b1_3_items_of_all_records_but_rollbacks() {
 }
 
 #[test]
+fn b1_3_no_queue_and_no_index_stops_it() {
+    // Dispatch stops with 12, 13 and 14 at the second record; the report is given no count, no R and no N.
+    let second = |queue_offset, properties| Message {
+        queue_offset,
+        ..rec_with(properties)
+    };
+    for (r, n, message, stop, items) in [
+        (4, 4, second(2, &b""[..]), 12, 0),
+        (1, 4, second(1, b""), 13, 0),
+        (4, 4, second(1, b"KEYS\x01a b c d"), 14, 4),
+        (4, 2, second(1, b"UNIQ_KEY\x01a\x02KEYS\x01b"), 14, 2),
+    ] {
+        let mut store = Store::with(1, d1(), r, 2, n);
+        store.add(&rec());
+        store.add(&message);
+        let (answer, figures) = whole_report(&store);
+        assert_eq!((answer, figures.records, figures.items), (0, 2, items));
+        assert_eq!(store.run(MAX), (stop, 1));
+        // Nor does what dispatch has done.
+        assert_eq!(whole_report(&store), (0, figures));
+    }
+}
+
+#[test]
 fn b1_4_smallest_and_largest_are_totals_of_records() {
     // Records of 92, 92 + 40 and 92 + 7 bytes, then a blank of 932: it is neither smallest nor largest.
     let body = [9; 40];
@@ -804,8 +828,8 @@ fn sum(first: &Figures, second: &Figures) -> Figures {
     }
 }
 
-/// What every report's figures keep to.
-fn see_laws(figures: &Figures) {
+/// What every report's figures keep to, over a stretch of so many bytes.
+fn see_laws(figures: &Figures, stretch: u64) {
     let of_queues: u64 = figures.rows.iter().sum::<u64>() + figures.unlisted;
     assert_eq!(of_queues, figures.records);
     let of_types = figures.none + figures.prepared + figures.commit + figures.rollback;
@@ -815,6 +839,9 @@ fn see_laws(figures: &Figures) {
     assert_eq!(figures.smallest == 0, figures.records == 0);
     assert_eq!(figures.largest == 0, figures.records == 0);
     assert!(figures.records == 0 || figures.smallest >= 92);
+    // Every figure is at most the stretch, so at most 2^40.
+    assert!(92 * figures.records + figures.body_bytes + 8 * figures.blanks <= stretch);
+    assert!(figures.items <= stretch);
 }
 
 #[test]
@@ -854,14 +881,14 @@ fn the_laws_hold_on_random_logs() {
         let (answer, figures) = report_of(&store, p, e);
         assert!(matches!(answer, 0 | 8 | 10));
         *answers.entry(answer).or_default() += 1;
-        see_laws(&figures);
+        see_laws(&figures, e - p);
         without_a_record += u64::from(figures.records == 0);
         // "a stretch" up to m that stops with 0, and the one from m on.
         let (stop, first) = report_of(&store, p, m);
-        see_laws(&first);
+        see_laws(&first, m - p);
         if stop == 0 {
             let (answer_from_m, second) = report_of(&store, m, e);
-            see_laws(&second);
+            see_laws(&second, e - m);
             assert_eq!(answer, answer_from_m);
             assert_eq!(figures, sum(&first, &second));
             if first.records > 0 && second.records > 0 {
