@@ -12,9 +12,12 @@ use crate::variation::Variation;
 
 /// Reports of one store, by its own directory and by others.
 pub fn reports(bench: &mut Bench, random: &Random) -> Check<()> {
-    let mut store = reported_store(bench, random)?;
+    let wide = random.one_in(40);
+    let mut store = reported_store(bench, random, wide)?;
     let sound = store.log.clone();
-    for _ in 0..3 {
+    // Items by the thousand take long.
+    let rounds = if wide { 1 } else { 3 };
+    for _ in 0..rounds {
         if !random.one_in(3) {
             store.directory = other_directory(random, &store);
         }
@@ -34,8 +37,7 @@ pub fn reports(bench: &mut Bench, random: &Random) -> Check<()> {
     Ok(())
 }
 
-fn reported_store(bench: &mut Bench, random: &Random) -> Check<Store> {
-    let wide = random.one_in(40);
+fn reported_store(bench: &mut Bench, random: &Random, wide: bool) -> Check<Store> {
     let plan = Plan {
         wide,
         troubled: random.one_in(2),
