@@ -10,10 +10,11 @@ use crate::random::Random;
 use crate::store::{directory, random_rows, Plan, Store};
 use crate::variation::Variation;
 
-/// Reports of one store, by its own directory and by others.
+/// Reports of one store: of all of it, then of stretches of it, by its own directory and by others.
 pub fn reports(bench: &mut Bench, random: &Random) -> Check<()> {
     let wide = random.one_in(40);
     let mut store = reported_store(bench, random, wide)?;
+    bench.report(&store.stretch(store.sizes.first_position, store.written_end))?;
     let sound = store.log.clone();
     // Items by the thousand take long.
     let rounds = if wide { 1 } else { 3 };
@@ -58,15 +59,14 @@ fn reported_store(bench: &mut Bench, random: &Random, wide: bool) -> Check<Store
     Ok(store)
 }
 
-/// Records of as many keys as fit, so that their items are more than 16 bits count.
+/// As many records as fit, of as many keys as fit: their items are often more than 16 bits count.
 fn many_keys(bench: &mut Bench, random: &Random, store: &mut Store) -> Check<()> {
     let draft = Draft {
+        system_flag: random.pick(&[0, 4, 8]),
         properties: [&b"KEYS\x01"[..], &b"a ".repeat(16_381)].concat(),
         ..some_draft(random, store)
     };
-    for _ in 0..random.pick(&[1, 12, 12]) {
-        store.append(bench, &draft)?;
-    }
+    while store.append(bench, &draft)? == 0 {}
     Ok(())
 }
 
