@@ -3,13 +3,13 @@
 use crate::args::Args;
 use crate::failure::{usage, Failure, Outcome};
 use crate::form::{Form, Results};
-use crate::log::{self, End, Log, Met, Place, Skipped, Why};
+use crate::log::{self, End, Log, Met, Passed, Place, Skipped, Why};
 use crate::note;
 use crate::record::{self, Read, With};
 use crate::text::{strings, Object};
 use crate::wanted::{seconds, Wanted};
 use std::io::Write;
-use swistopal::{Answer, Entry, LogPosition};
+use swistopal::{Entry, LogPosition};
 
 const LONG: With = With {
     topic: true,
@@ -44,20 +44,16 @@ pub fn run(args: &Args) -> Result<Outcome, Failure> {
         _ => {}
     }
     if how == How::Stopped {
-        let next = end.position.0;
-        hints.push(match args.value("--end") {
-            Some(_) if end.answer == Answer::NotReadable => {
-                format!("--end {} is inside the record at {next}", log.end().0)
-            }
-            _ => format!("--resync goes on behind {next}"),
-        });
+        let on = || format!("--resync goes on behind {}", end.position.0);
+        hints.push(log.end_inside(&end).unwrap_or_else(on));
     }
     log::tell(&hints);
     listing.tell();
     log::tell(&log.faults);
     log::tell(&log.limits);
     let sound = end.sound() || how == How::Cut;
-    Ok(match sound && log.faults.is_empty() && !listing.damaged() {
+    let damaged = listing.passed.damaged.count > 0;
+    Ok(match sound && log.faults.is_empty() && !damaged {
         true => Outcome::Sound,
         false => Outcome::Fault,
     })
@@ -117,7 +113,7 @@ struct Listing {
     results: Results,
     long: bool,
     entries: u64,
-    skipped: Vec<Skipped>,
+    passed: Passed,
 }
 
 impl Listing {
@@ -133,7 +129,7 @@ impl Listing {
             results,
             long,
             entries: 0,
-            skipped: Vec::new(),
+            passed: Passed::default(),
         })
     }
 
@@ -145,36 +141,30 @@ impl Listing {
         limit: u64,
         wanted: &mut Wanted,
     ) -> Result<(End, How), Failure> {
-        let mut how = How::Whole;
-        // Who starts behind a fault of the files has seen it.
-        let behind_at_first = log.is_behind_a_fault(from);
-        let end = log.walk_on(from, |met| {
+        let mut cut = false;
+        let each = |met: Met| {
             match met {
-                Met::Entry { behind: true, .. } if !resync && !behind_at_first => {
-                    how = How::Stopped;
-                }
                 Met::Entry {
                     position,
                     entry,
                     behind,
                 } if wanted.takes(&entry) => match self.entries == limit {
-                    true => how = How::Cut,
+                    true => cut = true,
                     false => self.entry(position, &entry, behind)?,
                 },
                 Met::Entry { .. } => {}
-                Met::Skipped(skipped) if resync || !skipped.is_damage() => {
-                    self.skipped(&skipped)?;
-                }
-                Met::Skipped(_) => how = How::Stopped,
+                Met::Skipped(skipped) => self.skipped(&skipped)?,
             }
-            Ok(how == How::Whole)
-        })?;
-        if how != How::Stopped {
-            return Ok((end, how));
-        }
-        let end = match log.entry(end.position) {
-            Err(answer) if behind_at_first => End::stopped(end.position, answer),
-            _ => log.walk(end.position, |_, _| Ok(true))?,
+            Ok(!cut)
+        };
+        let (end, stopped) = match resync {
+            true => (log.walk_on(from, each)?, false),
+            false => log.walk_to_damage(from, each)?,
+        };
+        let how = match (cut, stopped) {
+            (true, _) => How::Cut,
+            (_, true) => How::Stopped,
+            _ => How::Whole,
         };
         Ok((end, how))
     }
@@ -223,7 +213,7 @@ impl Listing {
     }
 
     fn skipped(&mut self, skipped: &Skipped) -> Result<(), Failure> {
-        self.skipped.push(*skipped);
+        self.passed.add(skipped);
         if !self.results.is_text() {
             return self.results.add(&record::skipped_object(skipped));
         }
@@ -231,12 +221,7 @@ impl Listing {
         Ok(())
     }
 
-    fn damaged(&self) -> bool {
-        self.skipped.iter().any(Skipped::is_damage)
-    }
-
     fn end(&mut self, log: &Log, end: &End, cut: bool, hints: &[String]) -> Result<(), Failure> {
-        let damage = || self.skipped.iter().filter(|skipped| skipped.is_damage());
         let sentence = match cut {
             true => String::from("cut at --limit"),
             false => end.answer.to_string(),
@@ -246,8 +231,8 @@ impl Listing {
             .text("sentence", &sentence)
             .number("end", end.position.0)
             .truth("more", cut)
-            .number("damaged_parts", damage().count() as u64)
-            .number("damaged_bytes", damage().map(Skipped::bytes).sum())
+            .number("damaged_parts", self.passed.damaged.count)
+            .number("damaged_bytes", self.passed.damaged.bytes)
             .raw("hints", &strings(hints))
             .raw("limits", &strings(&log.limits))
             .raw("faults", &strings(&log.faults));
@@ -262,10 +247,12 @@ impl Listing {
     }
 
     fn tell(&self) {
-        let parts = self.skipped.iter().copied();
-        let (damaged, left_out): (Vec<Skipped>, Vec<Skipped>) = parts.partition(Skipped::is_damage);
-        for (what, parts) in [("passed over", damaged), ("left out", left_out)] {
-            if let Some(sentence) = log::sentence_on(&parts) {
+        let passed = &self.passed;
+        for (what, parts) in [
+            ("passed over", &passed.damaged),
+            ("left out", &passed.left_out),
+        ] {
+            if let Some(sentence) = parts.sentence() {
                 note(&format!("{what}: {sentence}"));
             }
         }

@@ -4,7 +4,7 @@ mod before;
 mod on;
 mod segments;
 
-pub use on::{sentence_on, Cause, Met, Place, Skipped};
+pub use on::{Cause, Met, Passed, Place, Skipped};
 pub use segments::{numbered_name, LAST_END};
 
 use crate::args::Args;
@@ -253,6 +253,13 @@ impl Log {
             answer,
             why,
         }
+    }
+
+    /// That `--end` is inside a record, where reading ended for it.
+    pub fn end_inside(&self, end: &End) -> Option<String> {
+        let inside = self.end_given && end.answer == Answer::NotReadable;
+        let (given, LogPosition(at)) = (self.end().0, end.position);
+        inside.then(|| format!("--end {given} is inside the record at {at}"))
     }
 
     /// Total and magic are zero, as in a part of a segment that was never written.

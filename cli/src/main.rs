@@ -30,6 +30,7 @@ mod show;
 mod text;
 mod time;
 mod wanted;
+mod whole;
 mod work;
 
 use args::Args;

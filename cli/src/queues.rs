@@ -6,6 +6,7 @@ use crate::log::numbered_name;
 use crate::map::View;
 use crate::text::{grouped, shown, shown_path};
 use std::cmp::Ordering;
+use std::collections::HashMap;
 use std::ffi::OsStr;
 use std::fs;
 use std::os::unix::ffi::OsStrExt;
@@ -56,6 +57,36 @@ impl Queue {
         }
         let topic = OsStr::from_bytes(topic);
         Ok(consumequeue.join(topic).join(self.id.to_string()))
+    }
+}
+
+/// Queues in the order in which they were met.
+#[derive(Default)]
+pub struct Numbered {
+    pub list: Vec<Queue>,
+    numbers: HashMap<Vec<u8>, HashMap<u64, usize>>,
+}
+
+impl Numbered {
+    /// How many queues are compared one by one before others are looked up.
+    const FEW: usize = 16;
+
+    /// The number of a record's queue, from 0.
+    pub fn number(&self, message: &Message) -> Option<usize> {
+        let few = &self.list[..self.list.len().min(Self::FEW)];
+        let among_few = few.iter().position(|queue| queue.is_of(message));
+        among_few.or_else(|| {
+            let ids = self.numbers.get(message.topic)?;
+            ids.get(&message.fields.queue_id).copied()
+        })
+    }
+
+    pub fn add(&mut self, queue: Queue) -> usize {
+        let number = self.list.len();
+        let ids = self.numbers.entry(queue.topic.clone()).or_default();
+        ids.insert(queue.id.into(), number);
+        self.list.push(queue);
+        number
     }
 }
 

@@ -1,6 +1,8 @@
 //! Words of a command line that a shell takes back as they were.
 
+use crate::args::Args;
 use crate::text::is_unseen;
+use std::os::unix::ffi::OsStrExt;
 
 /// A word as a shell reads it. What a terminal would not show, or show otherwise, is written as escapes of `$'..'`.
 pub fn quoted(word: &[u8]) -> String {
@@ -18,6 +20,18 @@ pub fn place(path: &[u8]) -> String {
         true => quoted(&[b"./", path].concat()),
         false => quoted(path),
     }
+}
+
+/// Another command for the same place, with those of the options that were given here.
+pub fn call(args: &Args, command: &str, options: &[&str]) -> String {
+    let place = place(args.place().as_os_str().as_bytes());
+    let mut call = format!("swistopal {command} {place}");
+    for name in options {
+        if let Some(value) = args.value(name) {
+            call += &format!(" {name} {}", quoted(value.as_bytes()));
+        }
+    }
+    call
 }
 
 fn escaped(word: &[u8]) -> String {

@@ -172,16 +172,8 @@ impl<'a> Site<'a> {
         (name, path)
     }
 
-    /// A command for this store, with those of the options that this check was given.
     fn call(&self, command: &str, options: &[&str]) -> String {
-        let place = shell::place(self.args.place().as_os_str().as_bytes());
-        let mut call = format!("swistopal {command} {place}");
-        for name in options {
-            if let Some(value) = self.args.value(name) {
-                call += &format!(" {name} {}", shell::quoted(value.as_bytes()));
-            }
-        }
-        call
+        shell::call(self.args, command, options)
     }
 
     fn with_force(&self, options: &str) -> String {

@@ -8,8 +8,7 @@ use crate::failure::Failure;
 use crate::log::{End, Log, Met, Skipped};
 use crate::meter::Meter;
 use crate::plan::Row;
-use crate::queues::Queue;
-use std::collections::HashMap;
+use crate::queues::{Numbered, Queue};
 use std::path::Path;
 use swistopal::{makes_entry, Answer, Entry, LogPosition, Message, QueueOffset};
 
@@ -26,7 +25,10 @@ pub struct Survey {
     pub times: Option<(u64, u64)>,
     pub skipped: Vec<Skipped>,
     pub end: End,
-    pub queues: Seen,
+    /// The queues that records of the log belong to.
+    pub queues: Numbered,
+    /// The highest number of an entry in each of them.
+    pub last: Vec<u64>,
     pub bodies: Option<Bodies>,
     /// What the archive made, up to where it stopped.
     pub made: Option<Made>,
@@ -60,48 +62,6 @@ pub struct BadBody {
     pub computed: u64,
 }
 
-/// A queue that records of the log belong to.
-pub struct SeenQueue {
-    pub queue: Queue,
-    pub records: u64,
-    /// The highest number of an entry.
-    pub last: u64,
-}
-
-/// The queues in the order of their first records.
-#[derive(Default)]
-pub struct Seen {
-    pub list: Vec<SeenQueue>,
-    numbers: HashMap<Vec<u8>, HashMap<u64, usize>>,
-}
-
-impl Seen {
-    /// How many queues are compared one by one before others are looked up.
-    const FEW: usize = 16;
-
-    fn number(&self, message: &Message) -> Option<usize> {
-        let few = &self.list[..self.list.len().min(Self::FEW)];
-        let among_few = few.iter().position(|seen| seen.queue.is_of(message));
-        among_few.or_else(|| {
-            let ids = self.numbers.get(message.topic)?;
-            ids.get(&message.fields.queue_id).copied()
-        })
-    }
-
-    fn add(&mut self, message: &Message) -> usize {
-        let number = self.list.len();
-        let queue = Queue::of(message);
-        let ids = self.numbers.entry(queue.topic.clone()).or_default();
-        ids.insert(message.fields.queue_id, number);
-        self.list.push(SeenQueue {
-            queue,
-            records: 0,
-            last: 0,
-        });
-        number
-    }
-}
-
 pub fn walk(log: &Log, made: Option<Made>, judge_bodies: bool) -> Result<Survey, Failure> {
     let mut surveyor = Surveyor {
         log,
@@ -111,7 +71,8 @@ pub fn walk(log: &Log, made: Option<Made>, judge_bodies: bool) -> Result<Survey,
             times: None,
             skipped: Vec::new(),
             end: End::stopped(log.first(), Answer::Done),
-            queues: Seen::default(),
+            queues: Numbered::default(),
+            last: Vec::new(),
             bodies: judge_bodies.then(Bodies::default),
             made,
         },
@@ -201,19 +162,19 @@ impl Surveyor<'_> {
         let number = match survey.queues.number(message) {
             Some(number) => number,
             None => {
-                let number = survey.queues.add(message);
+                let number = survey.queues.add(Queue::of(message));
+                survey.last.push(0);
                 self.new_queue(position, number, message.fields.queue_offset);
                 number
             }
         };
-        let seen = &mut self.survey.queues.list[number];
-        seen.records += 1;
-        seen.last = seen.last.max(message.fields.queue_offset.0);
+        let last = &mut self.survey.last[number];
+        *last = (*last).max(message.fields.queue_offset.0);
     }
 
     /// The archive makes this queue too, from its first record on.
     fn new_queue(&mut self, position: LogPosition, number: usize, offset: QueueOffset) {
-        let queue = self.survey.queues.list[number].queue.clone();
+        let queue = self.survey.queues.list[number].clone();
         if let Some(made) = self.survey.made.as_mut() {
             // Only a name that is a folder's can be there.
             if queue.folder(Path::new("")).is_err() {

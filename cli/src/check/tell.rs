@@ -131,21 +131,21 @@ pub fn limits(log: &Log, survey: &Survey, report: &mut Report) {
         let found = limit("queues", sentence).number("queues", queues as u64);
         report.add(found.number("most", MOST_QUEUES as u64));
     }
-    let long = survey.queues.list.iter();
-    let long = long.filter(|seen| seen.last >= MOST_ENTRIES);
-    if let Some(longest) = long.clone().max_by_key(|seen| seen.last) {
-        let (entries, most) = (longest.last + 1, MOST_ENTRIES);
+    let long = survey.queues.list.iter().zip(&survey.last);
+    let long = long.filter(|(_, last)| **last >= MOST_ENTRIES);
+    if let Some((longest, last)) = long.clone().max_by_key(|(_, last)| **last) {
+        let (entries, most) = (last + 1, MOST_ENTRIES);
         let sentence = format!(
             "{} past {} entries, which is what this tool makes of one; {} has {}",
             counted(long.count() as u64, "queue goes", "queues go"),
             grouped(most),
-            longest.queue.shown(),
+            longest.shown(),
             grouped(entries)
         );
         report.add(
             limit("entries", sentence)
-                .bytes("topic", &longest.queue.topic)
-                .number("queue", u64::from(longest.queue.id))
+                .bytes("topic", &longest.topic)
+                .number("queue", u64::from(longest.id))
                 .number("entries", entries)
                 .number("most", most),
         );

@@ -84,18 +84,54 @@ impl Skipped {
     }
 }
 
-/// A sentence on several parts; on one of them it is its own.
-pub fn sentence_on(parts: &[Skipped]) -> Option<String> {
-    let first = parts.first()?.sentence();
-    let bytes: u64 = parts.iter().map(Skipped::bytes).sum();
-    Some(match parts.len() {
-        1 => first,
-        _ => format!(
-            "in {}, {} bytes in all, the first one {first}",
-            counted(parts.len() as u64, "part", "parts"),
-            grouped(bytes)
-        ),
-    })
+/// What was passed over: damage, and what this tool does not read.
+#[derive(Default)]
+pub struct Passed {
+    pub damaged: Parts,
+    pub left_out: Parts,
+}
+
+impl Passed {
+    pub fn add(&mut self, skipped: &Skipped) {
+        match skipped.is_damage() {
+            true => self.damaged.add(skipped),
+            false => self.left_out.add(skipped),
+        }
+    }
+}
+
+/// Several parts of the log that cannot be read, told together.
+#[derive(Default)]
+pub struct Parts {
+    first: Option<Skipped>,
+    pub count: u64,
+    pub bytes: u64,
+    /// Records with long hosts in them.
+    pub long_hosts: u64,
+}
+
+impl Parts {
+    fn add(&mut self, skipped: &Skipped) {
+        self.first.get_or_insert(*skipped);
+        self.count += 1;
+        self.bytes += skipped.bytes();
+        if let Cause::LongHosts(records) = skipped.why {
+            self.long_hosts += records;
+        }
+    }
+
+    /// On one part it is its own sentence.
+    pub fn sentence(&self) -> Option<String> {
+        let first = self.first?.sentence();
+        Some(match self.count {
+            1 => first,
+            _ => format!(
+                "in {}, {} bytes in all, the first one {first}",
+                counted(self.count, "part", "parts"),
+                grouped(self.bytes)
+            ),
+        })
+    }
 }
 
 impl Log {
@@ -133,6 +169,29 @@ impl Log {
             }
             position = next;
         }
+    }
+
+    /// The same up to the first damage, and whether there is any. Who starts behind a fault of the files has seen it.
+    pub fn walk_to_damage<'l>(
+        &'l self,
+        from: LogPosition,
+        mut each: impl FnMut(Met<'l>) -> Result<bool, Failure>,
+    ) -> Result<(End, bool), Failure> {
+        let behind_at_first = self.is_behind_a_fault(from);
+        let mut damaged = false;
+        let end = self.walk_on(from, |met| {
+            damaged = match &met {
+                Met::Entry { behind, .. } => *behind && !behind_at_first,
+                Met::Skipped(skipped) => skipped.is_damage(),
+            };
+            Ok(!damaged && each(met)?)
+        })?;
+        let end = match self.entry(end.position) {
+            _ if !damaged => end,
+            Err(answer) if behind_at_first => End::stopped(end.position, answer),
+            _ => self.walk(end.position, |_, _| Ok(true))?,
+        };
+        Ok((end, damaged))
     }
 
     /// What a position lies in. Reading starts at its segment's start, where something always starts.

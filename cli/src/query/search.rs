@@ -2,7 +2,7 @@
 
 use crate::failure::Failure;
 use crate::index::{Bytes, Index};
-use crate::log::{self, Log, Met, Place, Skipped, LAST_END};
+use crate::log::{Log, Met, Passed, Place, Skipped, LAST_END};
 use crate::record::{self, LeftOut, Read};
 use crate::text::{counted, grouped};
 use crate::wanted::Seen;
@@ -264,14 +264,16 @@ impl<'a> Search<'a> {
 
     /// What was passed over while the log was looked through.
     fn tell_passed_over(&mut self, parts: Vec<Skipped>) {
-        parts.iter().for_each(|skipped| self.passed_over(skipped));
-        let (damaged, left_out): (Vec<Skipped>, Vec<Skipped>) =
-            parts.into_iter().partition(Skipped::is_damage);
-        let damaged = log::sentence_on(&damaged).map(|sentence| {
+        let mut passed = Passed::default();
+        for skipped in &parts {
+            self.passed_over(skipped);
+            passed.add(skipped);
+        }
+        let damaged = passed.damaged.sentence().map(|sentence| {
             format!("the log cannot be read {sentence}; what is behind was looked through")
         });
         self.faults.extend(damaged);
-        let left_out = log::sentence_on(&left_out);
+        let left_out = passed.left_out.sentence();
         self.limits
             .extend(left_out.map(|sentence| format!("left out {sentence}")));
     }

@@ -1,9 +1,10 @@
-//! The work folder itself: whose it is, its lock, its end, and files that are there whole or not at all.
+//! The work folder itself: whose it is, its lock, its end.
 
 use crate::failure::{fault, usage, At, Failure};
 use crate::text::shown_path;
+use crate::whole::{is_there, sync_folder};
 use std::fs::{self, File, OpenOptions, TryLockError};
-use std::io::{self, Write};
+use std::io;
 use std::os::unix::fs::MetadataExt;
 use std::path::{Path, PathBuf};
 
@@ -139,26 +140,4 @@ fn remove(folder: &Path) -> io::Result<()> {
 
 pub fn empty(folder: &Path) -> bool {
     fs::read_dir(folder).is_ok_and(|mut entries| entries.next().is_none())
-}
-
-pub fn is_there(path: &Path) -> bool {
-    path.symlink_metadata().is_ok()
-}
-
-/// Writes a file that is there whole or not at all.
-pub fn write_whole(path: &Path, bytes: &[u8]) -> Result<(), Failure> {
-    let part = path.with_extension("part");
-    let mut file = File::create(&part).at("create", &part)?;
-    let written = file.write_all(bytes).and_then(|()| file.sync_all());
-    written.at("write", &part)?;
-    fs::rename(&part, path).at("rename", &part)?;
-    path.parent().map_or(Ok(()), sync_folder)
-}
-
-/// Waits until the disk has a folder's names. Some file systems know no such wait for folders.
-pub fn sync_folder(folder: &Path) -> Result<(), Failure> {
-    match File::open(folder).and_then(|folder| folder.sync_all()) {
-        Err(error) if error.kind() == io::ErrorKind::InvalidInput => Ok(()),
-        synced => synced.at("write", folder),
-    }
 }

@@ -1,6 +1,6 @@
 //! Results come to their places, and what was there is kept beside them.
 
-use super::folder::{empty, is_there, sync_folder, write_whole};
+use super::folder::empty;
 use super::targets::{entry_bytes, index_length};
 use super::{zeros, Work};
 use crate::failure::{fault, usage, At, Failure};
@@ -9,6 +9,7 @@ use crate::map::begin_to_sync;
 use crate::queues::FIRST_FILE;
 use crate::text::shown_path;
 use crate::time;
+use crate::whole::{is_there, sync_folder, write_whole};
 use std::fs;
 use std::io;
 use std::os::unix::fs::FileExt;
