@@ -4,12 +4,13 @@ _swistopal() {
     local word=${COMP_WORDS[COMP_CWORD]} before=${COMP_WORDS[COMP_CWORD - 1]} options
     COMPREPLY=()
     if ((COMP_CWORD == 1)); then
-        mapfile -t COMPREPLY < <(compgen -W 'demo list rebuild query queue show check --help --version' -- "$word")
+        mapfile -t COMPREPLY < <(compgen -W 'demo list report rebuild query queue show check --help --version' -- "$word")
         return
     fi
     case ${COMP_WORDS[1]} in
         demo) options='--help' ;;
         list) options='--from --limit --topic --from-time --to-time --resync --long --json --jsonl --end --segment-size --help' ;;
+        report) options='--from-time --to-time --queues --html --json --end --segment-size --help' ;;
         rebuild) options='--into --force --shorten --after-crash --queues --budget --batch --entries --slots --items --restart --json --end --segment-size --help' ;;
         query) options='--topic --key --unique-key --from --to --limit --body --scan --json --jsonl --slots --end --segment-size --help' ;;
         queue) options='--topic --queue --start --limit --tag --body --json --jsonl --end --segment-size --help' ;;
@@ -18,7 +19,7 @@ _swistopal() {
         *) return ;;
     esac
     case $before in
-        --queues)
+        --queues | --html)
             compopt -o filenames 2> /dev/null
             mapfile -t COMPREPLY < <(compgen -f -- "$word")
             return
@@ -49,7 +50,7 @@ _swistopal() {
         mapfile -t COMPREPLY < <(compgen -W "$options" -- "$word")
     else
         compopt -o filenames 2> /dev/null
-        if [[ ${COMP_WORDS[1]} == list || ${COMP_WORDS[1]} == show ]]; then
+        if [[ ${COMP_WORDS[1]} == list || ${COMP_WORDS[1]} == report || ${COMP_WORDS[1]} == show ]]; then
             mapfile -t COMPREPLY < <(compgen -f -- "$word")
         else
             mapfile -t COMPREPLY < <(compgen -d -- "$word")

@@ -5,6 +5,7 @@ swistopal: look into a RocketMQ store folder, and rebuild its queues and its ind
 
   swistopal demo DIR       make a small store of a parcel sorter
   swistopal list DIR|FILE  list the records of the commit log or of one segment
+  swistopal report DIR|FILE  give a shift in figures, from the commit log alone
   swistopal rebuild DIR    make consume queues and index from the commit log
   swistopal query DIR      find records by key, newest first
   swistopal queue DIR      show the records of one queue, in order
@@ -43,6 +44,22 @@ any other file, and standard input, starts where its first record says. Zeros up
   --end POSITION       read up to here; zeros before it are then damage
   --segment-size S     if the first segment is cut short and its size cannot be told from the files, or if standard input
                        has several segments
+";
+
+pub const REPORT: &str = "\
+swistopal report DIR|FILE [--from-time TIME] [--to-time TIME] [--queues FILE] [--html FILE] [--json]
+
+Gives a shift in figures, from the commit log alone, before anything is rebuilt: records, blanks, body bytes, the smallest and
+the largest record, index items; records by transaction type, by queue and by hour (UTC); first and last store time, what was
+read and how it ended. A record counts by its own store time, a blank goes with the record before it, one before all records
+with the first of them. The report ends where the log does or where it cannot be read, with the number of the answer.
+
+  --from-time TIME     only records not stored before; milliseconds, or RFC 3339 as 2026-03-02T06:00:00Z
+  --to-time TIME       only records not stored after
+  --queues FILE        only these queues one by one, 1 to 16, as for rebuild; otherwise all of the log, however many
+  --html FILE          also a page with tables and plots, for a browser and for A4; FILE must not be there yet
+  --json               one object
+  --end POSITION, --segment-size S   as for list
 ";
 
 pub const REBUILD: &str = "\

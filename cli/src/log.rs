@@ -16,7 +16,7 @@ use segments::{Run, Runs, Segment, SEGMENT_SIZES};
 use std::io::{self, Read};
 use std::ops::Deref;
 use std::path::{Path, PathBuf};
-use swistopal::{read_record, Answer, Entry, LogPosition, Sizes};
+use swistopal::{read_record, Answer, Entry, Figures, LogPosition, Reported, Sizes};
 
 /// Segments whose size is no multiple of the page size cannot lie side by side as mappings; up to so many bytes are copied.
 const COPY_LIMIT: u64 = 1 << 28;
@@ -260,6 +260,28 @@ impl Log {
         let inside = self.end_given && end.answer == Answer::NotReadable;
         let (given, LogPosition(at)) = (self.end().0, end.position);
         inside.then(|| format!("--end {given} is inside the record at {at}"))
+    }
+
+    /// The archive's figures of what stands from one position to another. It was read before, and is in one segment.
+    pub fn report(
+        &self,
+        from: LogPosition,
+        to: LogPosition,
+        directory: &[u8],
+    ) -> Result<Figures, Failure> {
+        let stretch = self.stretch_before(from);
+        match swistopal::report(&stretch.bytes, &stretch.sizes, from, to, directory) {
+            Ok(Reported {
+                stop: Answer::Done,
+                figures,
+            }) => Ok(figures),
+            Ok(Reported { stop, .. }) | Err(stop) => fault(format!(
+                "a report from {} to {} answers {}: {stop}",
+                from.0,
+                to.0,
+                stop.number()
+            )),
+        }
     }
 
     /// Total and magic are zero, as in a part of a segment that was never written.

@@ -25,6 +25,7 @@ mod queue;
 mod queues;
 mod rebuild;
 mod record;
+mod report;
 mod shell;
 mod show;
 mod text;
@@ -49,7 +50,7 @@ struct Command {
     run: fn(&Args) -> Result<Outcome, Failure>,
 }
 
-const COMMANDS: [Command; 7] = [
+const COMMANDS: [Command; 8] = [
     Command {
         name: "demo",
         help: help::DEMO,
@@ -71,6 +72,20 @@ const COMMANDS: [Command; 7] = [
             "--end",
         ],
         run: list::run,
+    },
+    Command {
+        name: "report",
+        help: help::REPORT,
+        flags: &["--json"],
+        values: &[
+            "--from-time",
+            "--to-time",
+            "--queues",
+            "--html",
+            "--segment-size",
+            "--end",
+        ],
+        run: report::run,
     },
     Command {
         name: "rebuild",

@@ -1,4 +1,4 @@
-//! Bytes and numbers as text that a terminal, a plan file or a JSON reader takes.
+//! Bytes and numbers as text that a terminal, a plan file, a JSON reader or a browser takes.
 
 use std::fmt::Write;
 use std::os::unix::ffi::OsStrExt;
@@ -67,6 +67,22 @@ pub fn of_shown(text: &str) -> Option<Vec<u8>> {
     }
     bytes.extend(rest.as_bytes());
     Some(bytes)
+}
+
+/// Text that stands for itself in a page, between tags and in quotes.
+pub fn html(text: &str) -> String {
+    let mut escaped = String::new();
+    for character in text.chars() {
+        match character {
+            '&' => escaped.push_str("&amp;"),
+            '<' => escaped.push_str("&lt;"),
+            '>' => escaped.push_str("&gt;"),
+            '"' => escaped.push_str("&quot;"),
+            '\'' => escaped.push_str("&#39;"),
+            _ => escaped.push(character),
+        }
+    }
+    escaped
 }
 
 /// A number with commas between thousands.
@@ -238,6 +254,14 @@ mod tests {
         }
         assert_eq!(string("\u{9b}\u{202e}"), r#""\u009b\u202e""#);
         assert_eq!(string("\u{e0041}"), r#""\udb40\udc41""#);
+    }
+
+    #[test]
+    fn nothing_of_a_text_is_a_tag() {
+        assert_eq!(
+            html("<a b=\"c\" d='e'>&amp;</a> é"),
+            "&lt;a b=&quot;c&quot; d=&#39;e&#39;&gt;&amp;amp;&lt;/a&gt; é"
+        );
     }
 
     #[test]

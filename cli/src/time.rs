@@ -3,7 +3,8 @@
 /// The store's last time, 2^48 - 1.
 pub const LAST: u64 = (1 << 48) - 1;
 
-const DAY: u64 = 86_400_000;
+pub const HOUR: u64 = 3_600_000;
+const DAY: u64 = 24 * HOUR;
 
 /// RFC 3339 in UTC with milliseconds. It has no years past 9999.
 pub fn rfc3339(time: u64) -> Option<String> {
@@ -17,6 +18,15 @@ pub fn rfc3339(time: u64) -> Option<String> {
 /// The same for people.
 pub fn shown(time: u64) -> String {
     rfc3339(time).unwrap_or_else(|| String::from("past the year 9999"))
+}
+
+/// The start of an hour since 1970, for people.
+pub fn shown_hour(hour: u64) -> String {
+    let time = hour * HOUR;
+    match rfc3339(time) {
+        Some(text) => text.replace(".000", ""),
+        None => format!("{} ({time})", shown(time)),
+    }
 }
 
 /// Digits only, as RocketMQ names an index file.
@@ -139,6 +149,11 @@ mod tests {
         }
         assert_eq!(rfc3339(253_402_300_800_000), None);
         assert_eq!(shown(LAST), "past the year 9999");
+        assert_eq!(shown_hour(492_341), "2026-03-02T05:00:00Z");
+        assert_eq!(
+            shown_hour(LAST / HOUR),
+            "past the year 9999 (281474974800000)"
+        );
         assert_eq!(file_name(951_827_696_789), "20000229123456789");
     }
 

@@ -14,7 +14,8 @@ const NAMED: usize = 12;
 
 pub struct Wanted<'a> {
     topic: Option<&'a [u8]>,
-    times: (u64, u64),
+    /// First and last, both included.
+    pub times: (u64, u64),
     /// Whether anything is left out.
     filters: bool,
     taken: u64,
@@ -69,6 +70,10 @@ impl<'a> Wanted<'a> {
             taken: 0,
             seen: Seen::default(),
         })
+    }
+
+    pub fn takes_all(&self) -> bool {
+        !self.filters
     }
 
     /// Blanks are wanted only where everything is.

@@ -1,9 +1,11 @@
 //! Files that are there whole or not at all.
 
-use crate::failure::{At, Failure};
+use crate::failure::{usage, At, Failure};
+use crate::text::shown_path;
 use std::fs::{self, File};
 use std::io::{self, Write};
-use std::path::Path;
+use std::path::{Path, PathBuf};
+use std::process;
 
 /// Whatever it is; a link that leads nowhere too.
 pub fn is_there(path: &Path) -> bool {
@@ -18,6 +20,39 @@ pub fn write_whole(path: &Path, bytes: &[u8]) -> Result<(), Failure> {
     put_in_place(&part, path)
 }
 
+/// Writes a file where none is. Neither it nor the part of it that is written first replaces anything.
+pub fn write_new(path: &Path, bytes: &[u8]) -> Result<(), Failure> {
+    refuse_existing(path)?;
+    let part = part_of(path);
+    let file = File::create_new(&part).at("create", &part)?;
+    let placed = fill(file, &part, bytes)
+        .and_then(|()| refuse_existing(path))
+        .and_then(|()| put_in_place(&part, path));
+    if placed.is_err() {
+        // What went wrong first is told.
+        let _ = fs::remove_file(&part);
+    }
+    placed
+}
+
+/// A new file is wanted.
+pub fn refuse_existing(path: &Path) -> Result<(), Failure> {
+    match is_there(path) {
+        true => usage(format!(
+            "{}: it is there already, and nothing is written over; name another file",
+            shown_path(path)
+        )),
+        false => Ok(()),
+    }
+}
+
+/// A name beside a file's that nobody else takes.
+fn part_of(path: &Path) -> PathBuf {
+    let mut name = path.file_name().unwrap_or_default().to_os_string();
+    name.push(format!(".{}.part", process::id()));
+    path.with_file_name(name)
+}
+
 fn fill(mut file: File, path: &Path, bytes: &[u8]) -> Result<(), Failure> {
     let written = file.write_all(bytes).and_then(|()| file.sync_all());
     written.at("write", path)
@@ -29,7 +64,7 @@ fn put_in_place(part: &Path, path: &Path) -> Result<(), Failure> {
 }
 
 /// A name alone is one in the folder where the tool was called.
-fn folder_of(path: &Path) -> &Path {
+pub fn folder_of(path: &Path) -> &Path {
     let parent = path.parent().filter(|parent| *parent != Path::new(""));
     parent.unwrap_or(Path::new("."))
 }

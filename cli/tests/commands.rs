@@ -12,14 +12,16 @@ fn help_and_usage() {
     bare(&["--version"]).is(0, "swistopal 0.");
     bare(&["--help"]).is(0, "swistopal COMMAND --help");
     bare(&["sort"]).is(2, "no such command: sort");
-    for command in ["demo", "list", "rebuild", "query", "queue", "check"] {
+    for command in [
+        "demo", "list", "report", "rebuild", "query", "queue", "check",
+    ] {
         bare(&[command, "--help"]).is(0, &format!("swistopal {command} DIR"));
         bare(&["help", command]).is(0, &format!("swistopal {command} DIR"));
         bare(&[command]).is(2, "which folder?");
         bare(&[command, "a", "b"]).is(2, "b: one place is enough");
         bare(&[command, "a", "--what"]).is(2, "no such option: --what");
     }
-    for command in ["list", "rebuild", "check"] {
+    for command in ["list", "report", "rebuild", "check"] {
         let words = [command, "/nowhere/at/all"];
         bare(&words).is(2, "/nowhere/at/all: there is no such folder");
     }
@@ -57,7 +59,8 @@ fn options(text: &str) -> Vec<String> {
 fn man_page_and_completion_have_every_option() {
     let man = include_str!("../swistopal.1").replace("\\-", "-");
     let completion = include_str!("../completion.bash");
-    for command in ["demo", "list", "rebuild", "query", "queue", "show", "check"] {
+    let commands = "demo list report rebuild query queue show check";
+    for command in commands.split(' ') {
         let mut known = options(&bare(&[command, "--help"]).out);
         for option in &known {
             assert!(
@@ -101,6 +104,8 @@ fn completion_completes() {
         String::from_utf8(output.stdout).unwrap()
     };
     assert_eq!(complete(&["que"]), "query\nqueue\n");
+    assert_eq!(complete(&["re"]), "report\nrebuild\n");
+    assert_eq!(complete(&["report", "store", "--html", "st"]), "store\n");
     assert_eq!(complete(&["query", "st"]), "store\n");
     assert_eq!(complete(&["query", "store", "--fr"]), "--from\n");
     assert_eq!(
