@@ -9,6 +9,7 @@ use crate::failure::{usage, Failure};
 use crate::text::{counted, grouped, html, shown, shown_path};
 use crate::time;
 use crate::whole::{folder_of, refuse_existing};
+use std::os::unix::ffi::OsStrExt;
 use std::path::Path;
 use swistopal::Figures;
 
@@ -22,13 +23,14 @@ const STORE: [&str; 3] = ["commitlog", "consumequeue", "index"];
 /// Whether a page may be written to a file. It is asked before the log is read, as that may take long.
 pub fn judge_place(path: &Path, store: &Path) -> Result<(), Failure> {
     refuse_existing(path)?;
-    let (folder, shown) = (folder_of(path), shown_path(path));
-    let Ok(folder) = folder.canonicalize() else {
+    let shown = shown_path(path);
+    if path.file_name().is_none() || path.as_os_str().as_bytes().ends_with(b"/") {
+        return usage(format!("--html {shown}: a file's name is needed"));
+    }
+    let folder = folder_of(path).canonicalize().ok();
+    let Some(folder) = folder.filter(|folder| folder.is_dir()) else {
         return usage(format!("--html {shown}: there is no such folder"));
     };
-    if path.file_name().is_none() || !folder.is_dir() {
-        return usage(format!("--html {shown}: a new file's name is needed"));
-    }
     let own = STORE.iter().map(|name| store.join(name).canonicalize());
     let mut own = own.filter_map(Result::ok);
     match own.any(|own| folder.starts_with(own)) {
