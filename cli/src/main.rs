@@ -19,6 +19,7 @@ mod loss;
 mod map;
 mod medium;
 mod meter;
+mod near;
 mod plan;
 mod query;
 mod queue;

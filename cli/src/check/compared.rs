@@ -3,7 +3,6 @@
 use super::exact::{self, Differs};
 use super::maker::Maker;
 use super::merge::Merge;
-use super::near::Near;
 use super::reach::Reach;
 use super::results::Results;
 use super::sides::{Given, Sides};
@@ -11,6 +10,7 @@ use super::survey::Survey;
 use crate::failure::Failure;
 use crate::log::{Log, Met};
 use crate::meter::Meter;
+use crate::near::Near;
 use crate::queues::{Queue, QueueEntry};
 use std::path::Path;
 use swistopal::{Answer, Entry, LogPosition, Message};

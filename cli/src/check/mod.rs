@@ -8,7 +8,6 @@ mod exact;
 mod made;
 mod maker;
 mod merge;
-mod near;
 mod reach;
 mod report;
 mod results;

@@ -2,11 +2,11 @@
 //! makes queues and index from it on the way, as long as no limit is met.
 
 use super::made::Made;
-use super::near::Near;
 use crate::crc;
 use crate::failure::Failure;
 use crate::log::{End, Log, Met, Skipped};
 use crate::meter::Meter;
+use crate::near::Near;
 use crate::plan::Row;
 use crate::queues::{Numbered, Queue};
 use std::path::Path;

@@ -5,6 +5,7 @@ use super::rows::Rows;
 use crate::failure::Failure;
 use crate::log::{End, Log, Met, Passed};
 use crate::meter::Meter;
+use crate::near::Near;
 use crate::queues::Queue;
 use crate::time::HOUR;
 use crate::wanted::Wanted;
@@ -58,6 +59,7 @@ struct Counter<'a, 'w> {
     log: &'a Log,
     wanted: &'a mut Wanted<'w>,
     meter: Meter,
+    near: Near<'a>,
     rows: Rows,
     /// Of the entry before.
     class: Class,
@@ -74,6 +76,7 @@ pub fn count(log: &Log, wanted: &mut Wanted, named: Option<Vec<Queue>>) -> Resul
         log,
         wanted,
         meter: Meter::new("reading", log.first().0, log.files_end().0),
+        near: Near::new(log),
         rows: Rows::of(named),
         class: Class::Open,
         stretch: None,
@@ -110,6 +113,7 @@ impl Counter<'_, '_> {
     }
 
     fn entry(&mut self, position: LogPosition, entry: &Entry) -> Result<(), Failure> {
+        self.near.look_ahead(position);
         self.meter.read(position.0);
         let class = match entry {
             Entry::Blank { .. } => self.class,
