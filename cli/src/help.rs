@@ -49,10 +49,11 @@ any other file, and standard input, starts where its first record says. Zeros up
 pub const REPORT: &str = "\
 swistopal report DIR|FILE [--from-time TIME] [--to-time TIME] [--queues FILE] [--html FILE] [--json]
 
-Gives a shift in figures, from the commit log alone, before anything is rebuilt: records, blanks, body bytes, the smallest and
-the largest record, index items; records by transaction type, by queue and by hour (UTC); first and last store time, what was
-read and how it ended. A record counts by its own store time, a blank goes with the record before it, one before all records
-with the first of them. The report ends where the log does or where it cannot be read, with the number of the answer.
+Gives a shift in figures, from the commit log alone, before anything is rebuilt: records, blanks, body bytes, the smallest
+and the largest record, index items; records by transaction type, by queue and by hour (UTC); first and last store time,
+what was read and how it ended. A record counts by its own store time. A blank goes with the record before it, one before
+all records with the first of them. The report ends where the log does or where it cannot be read, and says with which
+number.
 
   --from-time TIME     only records not stored before; milliseconds, or RFC 3339 as 2026-03-02T06:00:00Z
   --to-time TIME       only records not stored after

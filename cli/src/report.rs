@@ -20,10 +20,19 @@ use crate::{out, queues, shell};
 use std::io::Write;
 use std::path::Path;
 use swistopal::{Figures, LogPosition};
-use tally::Tally;
+use tally::{Reach, Tally};
 
 const FROM: &str = "--from-time";
 const TO: &str = "--to-time";
+/// What JSON has no value for where no record counts.
+const NO_REACH: [&str; 6] = [
+    "first_time",
+    "first_time_rfc3339",
+    "last_time",
+    "last_time_rfc3339",
+    "first_record",
+    "last_record",
+];
 
 pub fn run(args: &Args) -> Result<Outcome, Failure> {
     let named = match args.value("--queues") {
@@ -73,7 +82,7 @@ fn hints(args: &Args, log: &Log, wanted: &Wanted, tally: &Tally) -> Vec<String> 
     hints.extend(wanted.hints(&place));
     if tally.stopped || !log.faults.is_empty() {
         let call = shell::call(args, "check", &["--segment-size", "--end"]);
-        let next = || format!("what stands behind {to} is not in the figures; next: {call}");
+        let next = || format!("the figures go up to {to}; next: {call}");
         hints.push(log.end_inside(&tally.end).unwrap_or_else(next));
     }
     hints
@@ -187,24 +196,19 @@ impl Report {
 
     /// The part of it that tells what was read.
     fn ending(&self) -> Object {
-        let Tally {
-            times,
-            records,
-            passed,
-            end,
-            ..
-        } = &self.tally;
-        let (first, last) = (times.map(|times| times.0), times.map(|times| times.1));
-        let position =
-            |of: Option<LogPosition>| of.map_or(String::from("null"), |at| at.0.to_string());
+        let (end, passed) = (&self.tally.end, &self.tally.passed);
         let object = Object::new();
-        let object = match (first, last) {
-            (Some(first), Some(last)) => object.time("first_time", first).time("last_time", last),
-            _ => object.raw("first_time", "null").raw("last_time", "null"),
+        let object = match &self.tally.reach {
+            Some(Reach { times, records }) => object
+                .time("first_time", times.0)
+                .time("last_time", times.1)
+                .number("first_record", records.0 .0)
+                .number("last_record", records.1 .0),
+            None => NO_REACH
+                .iter()
+                .fold(object, |all, name| all.raw(name, "null")),
         };
         object
-            .raw("first_record", &position(records.map(|records| records.0)))
-            .raw("last_record", &position(records.map(|records| records.1)))
             .number("start", self.from.0)
             .number("end", end.position.0)
             .number("stop", end.answer.number().into())

@@ -4,6 +4,7 @@ use super::bars::{self, Bar};
 use super::columns::Columns;
 use super::scale::Unit;
 use super::svg::About;
+use super::tally::Reach;
 use super::{both, share, types, Report};
 use crate::failure::{usage, Failure};
 use crate::text::{counted, grouped, html, shown, shown_path};
@@ -68,11 +69,14 @@ pub fn page(report: &Report) -> String {
 
 fn heading(report: &Report) -> String {
     let place = html(&report.place);
-    let span = match report.tally.times {
-        Some((first, last)) => format!(
+    let span = match &report.tally.reach {
+        Some(Reach {
+            times: (first, last),
+            ..
+        }) => format!(
             "stored from {} to {}",
-            time::shown(first),
-            time::shown(last)
+            time::shown(*first),
+            time::shown(*last)
         ),
         None => String::from("no record"),
     };
@@ -260,11 +264,18 @@ fn hours(report: &Report) -> String {
 fn reading(report: &Report) -> String {
     let (tally, end) = (&report.tally, &report.tally.end);
     let [from, to] = report.asked();
-    let times = tally.times.map(|(first, last)| [first, last].map(both));
-    let [first_time, last_time] = times.unwrap_or_else(nothing);
-    let places = tally.records;
-    let places = places.map(|(first, last)| [first, last].map(|at| at.0.to_string()));
-    let [first, last] = places.unwrap_or_else(nothing);
+    let ended = format!("the log {}", end.sentence());
+    let reach = tally.reach.map(|Reach { times, records }| {
+        let (first, last) = (records.0 .0, records.1 .0);
+        [
+            both(times.0),
+            both(times.1),
+            first.to_string(),
+            last.to_string(),
+        ]
+    });
+    let nothing = || ["-"; 4].map(String::from);
+    let [first_time, last_time, first, last] = reach.unwrap_or_else(nothing);
     let rows = [
         ("from_time", "Asked for, from", from),
         ("to_time", "Asked for, to", to),
@@ -275,11 +286,7 @@ fn reading(report: &Report) -> String {
         ("start", "Read from position", report.from.0.to_string()),
         ("end", "Read to position", end.position.0.to_string()),
         ("stop", "Answer at its end", end.answer.number().to_string()),
-        (
-            "sentence",
-            "How it ended",
-            format!("the log {}", end.sentence()),
-        ),
+        ("sentence", "How it ended", ended),
     ];
     let rows = rows.map(|(name, title, text)| {
         let text = html(&text);
@@ -287,13 +294,10 @@ fn reading(report: &Report) -> String {
     });
     let rows = rows.concat();
     let table = format!(
-        "<table class=\"named\" data-table=\"reading\">\n<caption>Times and positions</caption>\n<tbody>\n{rows}</tbody>\n</table>\n"
+        "<table class=\"named\" data-table=\"reading\">\n<caption>Times and positions</caption>\n\
+         <tbody>\n{rows}</tbody>\n</table>\n"
     );
     section("What was read", &table)
-}
-
-fn nothing() -> [String; 2] {
-    [String::from("-"), String::from("-")]
 }
 
 fn section(title: &str, content: &str) -> String {

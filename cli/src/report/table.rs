@@ -85,12 +85,10 @@ fn ending(report: &Report, out: &mut impl Write) -> io::Result<()> {
         let [from, to] = report.asked();
         writeln!(out, "asked     from {from} to {to}")?;
     }
-    if let Some((first, last)) = tally.times {
-        let (from, to) = (both(first), both(last));
+    if let Some(reach) = &tally.reach {
+        let (from, to) = (both(reach.times.0), both(reach.times.1));
         writeln!(out, "stored    from {from} to {to}")?;
-    }
-    if let Some((first, last)) = tally.records {
-        let (first, last) = (first.0, last.0);
+        let (first, last) = (reach.records.0 .0, reach.records.1 .0);
         writeln!(
             out,
             "counted   first the record at {first}, last the one at {last}"

@@ -23,14 +23,21 @@ pub struct Tally {
     pub queues: Vec<(Queue, u64)>,
     /// The hours that have a record, by their number since 1970.
     pub hours: BTreeMap<u64, Figures>,
-    /// The lowest and the highest store time.
-    pub times: Option<(u64, u64)>,
-    /// The first and the last record, in the log's order.
-    pub records: Option<(LogPosition, LogPosition)>,
+    /// None if there is no record.
+    pub reach: Option<Reach>,
     pub passed: Passed,
     pub end: End,
     /// Whether the log goes on behind damage or behind a fault of its files.
     pub stopped: bool,
+}
+
+/// From where to where the records that count go.
+#[derive(Clone, Copy)]
+pub struct Reach {
+    /// The lowest and the highest store time.
+    pub times: (u64, u64),
+    /// The first and the last in the log's order.
+    pub records: (LogPosition, LogPosition),
 }
 
 impl Tally {
@@ -85,8 +92,7 @@ pub fn count(log: &Log, wanted: &mut Wanted, named: Option<Vec<Queue>>) -> Resul
             total: Figures::default(),
             queues: Vec::new(),
             hours: BTreeMap::new(),
-            times: None,
-            records: None,
+            reach: None,
             passed: Passed::default(),
             end: End::stopped(log.first(), Answer::Done),
             stopped: false,
@@ -151,10 +157,12 @@ impl Counter<'_, '_> {
         self.rows.meet(message, counts);
         if counts {
             let time = message.fields.store_time;
-            let (low, high) = self.tally.times.unwrap_or((time, time));
-            self.tally.times = Some((low.min(time), high.max(time)));
-            let (first, _) = self.tally.records.unwrap_or((position, position));
-            self.tally.records = Some((first, position));
+            let reach = self.tally.reach.get_or_insert(Reach {
+                times: (time, time),
+                records: (position, position),
+            });
+            reach.times = (reach.times.0.min(time), reach.times.1.max(time));
+            reach.records.1 = position;
         }
     }
 

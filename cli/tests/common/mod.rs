@@ -280,6 +280,15 @@ impl Json {
         &found.unwrap_or_else(|| panic!("no {name} in {self:?}")).1
     }
 
+    /// The names of an object's fields.
+    #[track_caller]
+    pub fn names(&self) -> Vec<&str> {
+        match self {
+            Json::Object(fields) => fields.iter().map(|(name, _)| name.as_str()).collect(),
+            other => panic!("no object: {other:?}"),
+        }
+    }
+
     #[track_caller]
     pub fn list(&self) -> &[Json] {
         match self {
