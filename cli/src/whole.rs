@@ -22,7 +22,6 @@ pub fn write_whole(path: &Path, bytes: &[u8]) -> Result<(), Failure> {
 
 /// Writes a file where none is. Neither it nor the part of it that is written first replaces anything.
 pub fn write_new(path: &Path, bytes: &[u8]) -> Result<(), Failure> {
-    refuse_existing(path)?;
     let part = part_of(path);
     let file = File::create_new(&part).at("create", &part)?;
     let placed = fill(file, &part, bytes)
