@@ -10,11 +10,16 @@ tool="${1:-${SWISTOPAL:-target/cli/release/swistopal}}"
 folder=$(mktemp -d)
 trap 'rm -rf "$folder"' EXIT
 
-if ! command -v chromium > /dev/null; then
+install_chromium() {
+    apt-get update -qq && DEBIAN_FRONTEND=noninteractive apt-get install -qq -y --no-install-recommends chromium
+}
+# A mirror may be away for a moment.
+for pause in 5 20 60 0; do
+    command -v chromium > /dev/null && break
     echo "report page: chromium is not there and is installed"
-    { apt-get update -qq && DEBIAN_FRONTEND=noninteractive apt-get install -qq -y --no-install-recommends chromium; } > "$folder/installed" 2>&1 ||
-        { cat "$folder/installed" >&2; exit 1; }
-fi
+    install_chromium > "$folder/installed" 2>&1 || sleep "$pause"
+done
+command -v chromium > /dev/null || { cat "$folder/installed" >&2; exit 1; }
 
 # browser PAGE OPTION..: what Chromium prints of a page; what it says beside that is shown only if it fails
 browser() {
