@@ -31,6 +31,6 @@ refused() {
 refused dispatch_step QueueOffset LogPosition 'request.row, offset, entries' 'request.row, position, entries'
 refused dispatch_request QueueOffset LogPosition 'queue_offset: QueueOffset(codec::get_u64(own, Record::QUEUE_OFFSET)),' 'queue_offset: p,'
 refused swistopal QueueOffset LogPosition 'QueueOffset(start)' 'LogPosition(start)'
-refused interface LogPosition QueueOffset 'first_position: LogPosition(sizes[1]),' 'first_position: QueueOffset(sizes[1]),'
+refused interface LogPosition QueueOffset 'first_position: LogPosition(sizes[1]),' 'first_position: units::QueueOffset(sizes[1]),'
 [ "$faults" = 0 ] || exit 1
 echo "a log position is taken for a place in a queue nowhere"

@@ -8,9 +8,7 @@ use dispatch::Dispatched;
 use dispatch_step::Progress;
 use dispatch_step::Sizes;
 use index_file::IndexSizes;
-use record::Fields;
 use units::LogPosition;
-use units::QueueOffset;
 
 const GEOMETRY: Geometry = Geometry {
     segment_size: 1024,
@@ -49,22 +47,12 @@ fn append(
     system_flag: u64,
     store_time: u64,
 ) -> LogPosition {
-    let fields = Fields {
-        body_crc: 0,
-        queue_id: 0,
-        flag: 0,
-        queue_offset: QueueOffset(offset),
-        system_flag,
-        born_time: 0,
-        store_time,
-        reconsume_times: 0,
-        prepared_offset: 0,
-    };
+    let fields = [0, 0, 0, offset, system_flag, 0, store_time, 0, 0];
     let appended = commit_log::append(
         log,
         GEOMETRY,
         end,
-        fields,
+        &fields,
         &HOST,
         &HOST,
         b"",

@@ -1,10 +1,10 @@
--- Which number of a lent array is which: the structs of include/swistopal.h that a call takes, their members in their order. Of those that it only
--- tells, `numbers` (record), `queryGives` (swistopal), `asNumbers` (shift_report) and `valuesOf` (swistopal_facts) say it. Assumes nothing.
+-- Which number of a lent array is which: the structs of include/swistopal.h that a call takes, their members in their order; of `swistopal_fields`
+-- `fieldsIn` (record_writer) says it. Of those that it only tells, `numbers` (record), `queryGives` (swistopal), `asNumbers` (shift_report) and
+-- `valuesOf` (swistopal_facts) say it. Assumes nothing.
 use Prim.Native.Nat.{ℕ, zero, suc}
 use mathlib.Core.List.{List, [], _∷_}
 use lib.ListN.{getD}
 use Rattle.units.specs.declared.LogPosition.{LogPosition}
-use Rattle.record.specs.declared.Fields.{Fields}
 use Rattle.commit_log.specs.declared.Geometry.{Geometry}
 use Rattle.index_file.specs.declared.IndexSizes.{IndexSizes}
 use Rattle.dispatch_step.specs.declared.Sizes.{Sizes}
@@ -25,21 +25,6 @@ indexSizesIn sizes = record { «slot_count» = getD sizes 3 0; «item_count» = 
 
 unfoldable pub sizesIn : List ℕ → Sizes
 sizesIn sizes = record { geometry = geometryIn sizes; «queue_entries» = queueEntriesIn sizes; index = indexSizesIn sizes }
-
--- `swistopal_fields`
-unfoldable pub fieldsIn : List ℕ → Fields
-fieldsIn fields =
-    record {
-      «body_crc» = getD fields 0 0;
-      «queue_id» = getD fields 1 0;
-      flag = getD fields 2 0;
-      «queue_offset» = record { 0 = getD fields 3 0 };
-      «system_flag» = getD fields 4 0;
-      «born_time» = getD fields 5 0;
-      «store_time» = getD fields 6 0;
-      «reconsume_times» = getD fields 7 0;
-      «prepared_offset» = getD fields 8 0;
-    }
 
 -- n numbers of a list, from place `at` on
 unfoldable pub numbersFrom : ℕ → ℕ → List ℕ → List ℕ

@@ -4,9 +4,9 @@ use mathlib.Core.Path.{_≡_, _∙_, ap}
 use mathlib.Core.List.{List, [], _∷_}
 use Rattle.units.specs.declared.Answer.{Answer}
 use Rattle.units.specs.Answers.{numberOf}
-use Rattle.record.specs.declared.Fields.{Fields}
 use Rattle.record.specs.Reading.{Told, told}
 use Rattle.record_writer.specs.Encode.{RecordParts}
+use Rattle.record_writer.specs.Writing.{fieldsIn}
 use Rattle.commit_log.specs.declared.Geometry.{Geometry}
 use Rattle.commit_log.specs.declared.Appended.{Appended}
 use Rattle.commit_log.specs.Log.{entryIn, appended}
@@ -24,17 +24,17 @@ use Rattle.dispatch_step.specs.declared.Progress.{Progress}
 use Rattle.dispatch_step.specs.Step.{stateOf}
 use Rattle.dispatch.specs.declared.Dispatched.{Dispatched}
 use Rattle.dispatch.specs.Dispatch.{dispatcher, callOf, ranOf}
-use Rattle.interface.specs.Structs.{position, geometryIn, queueEntriesIn, indexSizesIn, sizesIn, fieldsIn, progressIn, countsIn, progressOf}
+use Rattle.interface.specs.Structs.{position, geometryIn, queueEntriesIn, indexSizesIn, sizesIn, progressIn, countsIn, progressOf}
 use Rattle.swistopal.specs.Interface.{appendGives, append, Appends, readGives, readRecord, lent, stateIn, lentOf, dispatchGives, callIn, Dispatches, queueGives, readQueue, queryGives, query, list}
 
-pub append-made : (sizes fields : List ℕ) (parts : RecordParts) (log : List ℕ) (w : ℕ) {g : Geometry} {f : Fields} (r : Appended) (log′ : List ℕ) (n : ℕ)
-    → g ≡ geometryIn sizes → f ≡ fieldsIn fields → record { made = r; log = log′ } ≡ appended log g (position w) f parts → n ≡ numberOf (r .answer)
+pub append-made : (sizes fields : List ℕ) (parts : RecordParts) (log : List ℕ) (w : ℕ) {g : Geometry} (r : Appended) (log′ : List ℕ) (n : ℕ)
+    → g ≡ geometryIn sizes → record { made = r; log = log′ } ≡ appended log g (position w) (fieldsIn fields) parts → n ≡ numberOf (r .answer)
     → Appends sizes fields parts log w n log′ (r .«write_position» .0)
 unfolding append appendGives
-append-made sizes fields parts log w r log′ n g f e h =
+append-made sizes fields parts log w r log′ n g e h =
     (λ i. record { answer = h i; log = log′; «write_position» = r .«write_position» .0 })
     ∙ ap appendGives e
-    ∙ (λ i. appendGives (appended log (g i) (position w) (f i) parts))
+    ∙ (λ i. appendGives (appended log (g i) (position w) (fieldsIn fields) parts))
 
 pub record-read : (sizes log : List ℕ) (p end : ℕ) {g : Geometry} (a : Answer) (out : List ℕ) (n : ℕ) → g ≡ geometryIn sizes
     → record { answer = a; out = out } ≡ told (entryIn log g (position p) (position end)) → n ≡ numberOf a

@@ -27,7 +27,7 @@ pub extern "C" fn swistopal_append(
         log,
         interface::geometry_in(sizes),
         w,
-        interface::fields_in(fields),
+        fields,
         born_host,
         store_host,
         body,

@@ -7,9 +7,8 @@ use Rattle.swistopal.proofs.swistopal_append.Tie as tie
 returns : tie.Need-returns
 returns c =
     let a = c .before .before .before in
-    let f = a .before in
-    append-made _ _ _ _ _ _ _ _ (f .before .geometry-in .ensures) (f .fields-in .ensures) (a .append .ensures) (c .number .ensures)
+    append-made _ _ _ _ _ _ _ _ (a .before .geometry-in .ensures) (a .append .ensures) (c .number .ensures)
 
 pub swistopal-append-spec : {M : Type 1} → statement M
 swistopal-append-spec =
-    tie.close (tie.spec (search needs) (search needs) (search needs) (search needs) (search needs) returns)
+    tie.close (tie.spec (search needs) (search needs) (search needs) (search needs) returns)
