@@ -6,13 +6,14 @@
 #   make install PREFIX=/usr     header, archive, swistopal.pc, lister and tool
 #   make example                 builds and runs examples/store.c
 #   make compare COUNT=20000 SEED=1   the archive against the independent model
+#   make texts                   the archive against Rust's library on every short text
 #   make mutants                 the comparison against wrong models
 #   make bench                   the archive's times against fast plain Rust; BENCH='--short' or '--only JOB'
 #   make interface               header, example, installation and Rust bindings (tests/interface.sh)
 #
 # SWISTOPAL_LIB_DIR names another archive's directory, LISTER another lister: both must be there already.
 
-VERSION = 0.3.0
+VERSION = 0.4.0
 PREFIX ?= /usr/local
 DESTDIR ?=
 CFLAGS ?= -O2
@@ -30,17 +31,17 @@ archive := $(SWISTOPAL_LIB_DIR)/libswistopal.a
 tool_sources := $(wildcard cli/Cargo.* cli/src/*.rs cli/src/*/*.rs bindings/rust/Cargo.* bindings/rust/*.rs bindings/rust/src/*.rs)
 sources := crates.txt $(shell find crates -name '*.rt' -o -name '*.antt')
 
-.PHONY: all tour install example compare mutants bench interface cli
+.PHONY: all tour install example compare texts mutants bench interface cli
 all: $(archive)
 
-# Three objects, each proved: the operations, the report of a stretch, and the functions that tell what a record makes. Apart, they leave the compiler
-# free to take what dispatch and the report call into their loops.
+# Five objects, each proved: dispatch and queue reading; the query; append, record reading and the lister's text; the report of a stretch; the
+# functions that tell what a record makes. Apart, they leave the compiler free to take what dispatch and the report read a record with (its judge, the
+# scan of its properties, the hash) into their loops.
+exported := swistopal swistopal_index swistopal_log swistopal_stretch swistopal_facts
 $(built_lib_dir)/libswistopal.a: $(sources)
-	rt staticlib swistopal
-	rt staticlib swistopal_stretch
-	rt staticlib swistopal_facts
+	for crate in $(exported); do rt staticlib $$crate || exit 1; done
 	rm -rf $(@D) && mkdir -p $(@D)
-	cd $(@D) && ar x ../staticlib/libswistopal.a && ar x ../staticlib/libswistopal_stretch.a && ar x ../staticlib/libswistopal_facts.a && ar rcsD $(@F).part *.o && rm *.o && mv $(@F).part $(@F)
+	cd $(@D) && for crate in $(exported); do ar x ../staticlib/lib$$crate.a || exit 1; done && ar rcsD $(@F).part *.o && rm *.o && mv $(@F).part $(@F)
 
 $(built_lister): $(sources)
 	rt check lister
@@ -86,6 +87,9 @@ example: target/example/store
 
 compare: $(archive)
 	cargo run --quiet --release --offline --manifest-path reference/Cargo.toml -p compare -- --seed $(SEED) --count $(COUNT)
+
+texts: $(archive)
+	cargo run --quiet --release --offline --manifest-path reference/Cargo.toml -p compare -- --texts
 
 mutants: $(archive)
 	reference/mutants.py

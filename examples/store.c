@@ -1,6 +1,7 @@
 /*
  * A parcel sorter's events in a store: append records until one rolls into the next segment, report them, dispatch them,
- * read a queue, ask the index for one parcel. Every answer is checked; the program ends with 1 at the first one that is not expected.
+ * read a queue, ask the index for one parcel and for one addressee. Every answer is checked; the program ends with 1 at the
+ * first one that is not expected.
  * It is C11 and C++17.
  */
 #include <stdio.h>
@@ -20,6 +21,11 @@ enum {
 };
 
 static const char TOPIC[] = "SORTER";
+
+/* Müller: keys are text in any language, as UTF-8. */
+static const char ADDRESSEE[] = "M\xc3\xbcller";
+/* The same name as ISO 8859-1 has it, which is no UTF-8. */
+static const char NO_TEXT[] = "M\xfcller";
 
 /* 10.20.0.11:10911, as RocketMQ writes a host: four bytes of address, four of port. */
 static const uint8_t HOST[8] = {10, 20, 0, 11, 0, 0, 0x2a, 0x9f};
@@ -56,14 +62,19 @@ static swistopal_sizes sizes_of_store(void)
     return sizes;
 }
 
-/* One event of a parcel: the parcel is the unique key, and the tag says whether the event's number is odd or even. */
-static uint32_t append_event(const swistopal_sizes *sizes, unsigned number, uint64_t store_time, uint64_t *write_position)
+/* One event of a parcel: the parcel is the unique key, each fourth has its addressee as a key, and the tag says whether the
+ * event's number is odd or even. */
+static uint32_t append_event(
+    const swistopal_sizes *sizes, unsigned number, const char *addressee, uint64_t store_time, uint64_t *write_position)
 {
     char body[32];
-    char properties[64];
+    char properties[96];
     int body_length = snprintf(body, sizeof body, "divert to chute %u", 120 + number);
-    int properties_length =
-        snprintf(properties, sizeof properties, "TAGS\x01%s\x02UNIQ_KEY\x01parcel-%u\x02", number % 2 ? "odd" : "even", number % 4);
+    int properties_length = snprintf(
+        properties, sizeof properties, "TAGS\x01%s\x02UNIQ_KEY\x01parcel-%u\x02", number % 2 ? "odd" : "even", number % 4);
+    if (number % 4 == 2)
+        properties_length += snprintf(
+            properties + properties_length, sizeof properties - (size_t)properties_length, "KEYS\x01%s\x02", addressee);
     swistopal_fields fields;
     memset(&fields, 0, sizeof fields);
     fields.queue_offset = number;
@@ -88,18 +99,23 @@ int main(void)
     unsigned rolls = 0;
     for (unsigned number = 0; number < EVENTS; number++) {
         uint64_t store_time = 10000 + 1500 * (uint64_t)number;
-        uint32_t answer = append_event(&sizes, number, store_time, &write_position);
+        uint32_t answer = append_event(&sizes, number, ADDRESSEE, store_time, &write_position);
         if (answer == SWISTOPAL_BLANK_WRITTEN) {
             rolls++;
-            answer = append_event(&sizes, number, store_time, &write_position);
+            answer = append_event(&sizes, number, ADDRESSEE, store_time, &write_position);
         }
         if (!expect("append", answer, SWISTOPAL_DONE))
             return 1;
     }
     printf("appended %d events, %u roll, write position %llu\n", EVENTS, rolls, (unsigned long long)write_position);
 
+    uint32_t answer = append_event(&sizes, 10, NO_TEXT, 30000, &write_position);
+    if (!expect("append of what is no UTF-8", answer, SWISTOPAL_BAD_REQUEST))
+        return 1;
+    printf("an event with a key that is no UTF-8 is refused\n");
+
     swistopal_record record;
-    uint32_t answer = swistopal_read_record(store_log, sizeof store_log, &sizes, 0, write_position, &record);
+    answer = swistopal_read_record(store_log, sizeof store_log, &sizes, 0, write_position, &record);
     if (!expect("read_record", answer, SWISTOPAL_DONE) || record.kind != SWISTOPAL_RECORD)
         return 1;
     printf("record at 0: %llu bytes, stored at %llu, body \"%.*s\"\n", (unsigned long long)record.total,
@@ -175,6 +191,21 @@ int main(void)
             bytes(TOPIC), strlen(TOPIC), bytes(key), strlen(key)))
         return 1;
     printf("the record at %llu has that key\n", (unsigned long long)positions[0]);
+
+    answer = swistopal_query(
+        index_file, sizeof index_file, &sizes, bytes(TOPIC), strlen(TOPIC), bytes(ADDRESSEE), strlen(ADDRESSEE), 0, 20000,
+        PLACES, positions, PLACES, &found);
+    if (!expect("query by addressee", answer, SWISTOPAL_DONE) || found.positions != 2)
+        return 1;
+    printf("%s, newest first:", ADDRESSEE);
+    print_positions(positions, found.positions);
+    printf(" (%llu items read)\n", (unsigned long long)found.items_read);
+    answer = swistopal_query(
+        index_file, sizeof index_file, &sizes, bytes(TOPIC), strlen(TOPIC), bytes(NO_TEXT), strlen(NO_TEXT), 0, 20000,
+        PLACES, positions, PLACES, &found);
+    if (!expect("query for what is no UTF-8", answer, SWISTOPAL_MALFORMED))
+        return 1;
+    printf("a query for a key that is no UTF-8 is refused\n");
 
     answer = swistopal_query(
         index_file, sizeof index_file, &sizes, bytes(TOPIC), strlen(TOPIC), bytes(key), 0, 0, 20000, PLACES, positions,

@@ -24,6 +24,13 @@
  *      length of an index file 40 + 4 K + 20 N
  *      times                   0 to 2^48 - 1
  *
+ * Text: a record's topic, and the values of TAGS, KEYS and UNIQ_KEY that count (of each name the last pair), are UTF-8
+ * as RFC 3629 has it: no overlong forms, no surrogates, nothing above 10FFFF, no cut characters, no stray bytes. A
+ * record of whatever transaction type with other bytes there is not sound: 5 from an append, 10 where it is read. A
+ * query whose topic or key is not UTF-8, each by itself, is 17. Not judged are names, other values, earlier pairs of a
+ * name, pieces that are no pair, bodies and the topics of a directory; lengths are in bytes. Hashes are those of Java's
+ * strings, over UTF-16 units: C3 A9 gives 233.
+ *
  * Directory: rows that fill the buffer exactly, 1 to 16 of them, no two with the same topic and queue id. A row, little
  * endian: length of the whole row (2 bytes, 9 to 135), kind (2 bytes, value 1), queue id (4 bytes, below 2^31), topic.
  * Row i owns region i of the queue buffer: R entries from byte i * R * 20 on. queues_len is rows * R * 20.
@@ -130,8 +137,9 @@ typedef struct swistopal_values {
  *   1  S, B or log_len
  *   2  *write_position outside B to B + log_len, or 1 to 7 bytes remain in its segment
  *   5  the record could not be sound at a segment's start: topic not 1 to 127 bytes, properties above 32,767 bytes,
- *      total above S - 8 or 4,194,304, store time above 2^48 - 1, queue id of 2^31 or more, system flag bit 16 or 32; or
- *      a host is not 8 bytes long, or a number that the record keeps in 4 bytes is above 2^32 - 1
+ *      total above S - 8 or 4,194,304, store time above 2^48 - 1, queue id of 2^31 or more, system flag bit 16 or 32,
+ *      text that is not UTF-8; or a host is not 8 bytes long, or a number that the record keeps in 4 bytes is above
+ *      2^32 - 1
  *   6  *write_position is the log's end, or the record does not fit and no segment follows
  *   7  the record does not fit into this segment: a blank of 8 bytes is written, *write_position is the next segment's
  *      start; call again
@@ -154,8 +162,8 @@ uint32_t swistopal_append(
  *   2   not B <= position <= readable_end <= B + log_len
  *   8   position is readable_end, or what stands there is not wholly below readable_end
  *   10  damaged: not a sound record and not a blank. Below readable_end this comes before 8 where fewer than 8 bytes
- *       remain in the segment, or where the first 8 bytes (total and magic) are readable and bad; any other damage shows
- *       once the whole record is readable
+ *       remain in the segment, or where the first 8 bytes (total and magic) are readable and bad; any other damage, text
+ *       that is not UTF-8 too, shows once the whole record is readable
  *   0   *record tells the record or the blank; of a blank all but kind and total are 0
  * On 1, 2, 8 and 10 all of *record is 0. No byte at or above readable_end decides anything.
  *
@@ -225,8 +233,8 @@ uint32_t swistopal_read_queue(
  * Answers, judged in this order:
  *   1   K, N or index_len
  *   4   index header bad
- *   17  topic not 1 to 127 bytes, key not 1 to 32,767 bytes, a time above 2^48 - 1, first_time above last_time, or the
- *       number wanted above out_len
+ *   17  topic not 1 to 127 bytes of UTF-8, key not 1 to 32,767 bytes of UTF-8, a time above 2^48 - 1, first_time above
+ *       last_time, or the number wanted above out_len
  *   16  the chain is broken; what was found before stands
  *   0   the chain ended, an item before first_time was met, or enough was found
  * found->positions positions stand at the start of out; found->items_read counts the items read, a bad one included. On
@@ -276,10 +284,11 @@ uint32_t swistopal_report(
 
 /*
  * What a record makes, so that no other program has to repeat a rule. None of these has an answer: the number returned is
- * the thing itself, 1 and 0 are yes and no.
+ * the thing itself, 1 and 0 are yes and no. They take any bytes and judge no text.
  */
 
-/* A tag's code, as a queue entry holds it. */
+/* A tag's code, as a queue entry holds it. Of bytes that are not UTF-8: the code of the characters before the first
+ * place where none stands. */
 uint64_t swistopal_tag_code(const uint8_t *tag, size_t tag_len);
 
 /* Whether a record with this system flag makes a queue entry. */
@@ -288,7 +297,7 @@ uint32_t swistopal_makes_entry(uint64_t system_flag);
 /* How many index items a record with this system flag and these properties makes. */
 uint64_t swistopal_item_count(uint64_t system_flag, const uint8_t *properties, size_t properties_len);
 
-/* Whether a topic and key are among the items of a record with this system flag, topic and properties. */
+/* Whether a topic and key are, byte for byte, among the items of a record with this system flag, topic and properties. */
 uint32_t swistopal_has_item(
     uint64_t system_flag, const uint8_t *record_topic, size_t record_topic_len,
     const uint8_t *properties, size_t properties_len,

@@ -113,7 +113,7 @@ def contracts(source, head):
                 yield f"crates/{whole[1]}/specs/{whole[2]}.antt", whole[3]
 
 
-outer = list(contracts("crates/swistopal/src/lib.rt", 'pub extern "C" ')) + [(f"crates/{crate}/specs/Claims.antt", name) for crate, name in DEMANDS]
+outer = [name for source in sorted(glob.glob("crates/*/src/lib.rt")) for name in contracts(source, 'pub extern "C" ')] + [(f"crates/{crate}/specs/Claims.antt", name) for crate, name in DEMANDS]
 faults += [f"{PAGE}: no {name} in {file}" for file, name in outer if os.path.basename(file) == "Claims.antt" and name not in defined(file)]
 faults += [f"{PAGE}: 'Files to believe' has not {file}" for file in sorted(reach(outer) - set(believed))]
 every = [name for source in glob.glob("crates/*/src/**/*.rt", recursive=True) for name in contracts(source, 'pub (?:extern "C" )?')]

@@ -1,8 +1,8 @@
-//! The command line: `--name value`, `--name=value`, flags, and one place, which a second word may follow. Values are bytes, as
-//! keys may be any.
+//! The command line: `--name value`, `--name=value`, flags, and one place, which a second word may follow. Topics, keys and tags
+//! are text; places are any bytes, as names of files are.
 
 use crate::failure::{usage, Failure};
-use crate::text::shown;
+use crate::text::{shown, NoText};
 use crate::time;
 use std::ffi::{OsStr, OsString};
 use std::os::unix::ffi::{OsStrExt, OsStringExt};
@@ -121,10 +121,27 @@ impl Args {
         found.map(|(_, value)| value.as_os_str())
     }
 
-    pub fn bytes(&self, name: &str) -> Result<&[u8], Failure> {
-        match self.value(name) {
-            Some(value) => Ok(value.as_bytes()),
+    /// A topic, a key or a tag.
+    pub fn text(&self, name: &str) -> Result<&str, Failure> {
+        match self.optional_text(name)? {
+            Some(text) => Ok(text),
             None => usage(format!("{name} is needed")),
+        }
+    }
+
+    /// The same, if it is given. What is no UTF-8 no record has: a terminal with another encoding has sent it.
+    pub fn optional_text(&self, name: &str) -> Result<Option<&str>, Failure> {
+        let Some(value) = self.value(name) else {
+            return Ok(None);
+        };
+        match (value.to_str(), NoText::of(value.as_bytes())) {
+            (None, Some(flaw)) => usage(format!(
+                "{name} {}: it is no UTF-8, which topics, keys and tags are: at byte {}, the first one being 0, stands {}",
+                shown(value.as_bytes()),
+                flaw.at,
+                flaw.what()
+            )),
+            (text, _) => Ok(text),
         }
     }
 

@@ -14,6 +14,7 @@ swistopal: look into a RocketMQ store folder, and rebuild its queues and its ind
 
 swistopal COMMAND --help says more; --version gives the version.
 A store folder has commitlog/ with 20-digit names, consumequeue/TOPIC/QUEUE/ and index/. The commit log is only read.
+Topics, keys and tags are text in any language, as UTF-8; what cannot be seen of them is shown as \\xNN.
 Results go to standard output, all else to standard error. Exit status: 0, 1 (a fault was found), 2 (bad usage).
 ";
 
@@ -96,7 +97,7 @@ Finds the records that carry a key, among KEYS or as UNIQ_KEY, newest first. Eac
 only shares the key's hash is left out and counted, one that does not stand in the log is a fault. What the index does not
 reach is looked through in the log, behind damage too; records that are read behind damage are marked.
 
-  --key K              any bytes
+  --key K              text in any language, as UTF-8; it is compared byte for byte
   --unique-key K       the same, only as UNIQ_KEY
   --topic T            in this topic; otherwise in all of the store, for which the whole log is read once
   --from TIME          not stored before; milliseconds, or RFC 3339 as 2026-03-02T06:00:00Z
@@ -118,7 +119,7 @@ Shows the records of one queue in order, each one read back from the log. Those 
   --topic T, --queue N the queue
   --start N            from this entry on
   --limit N            at most N records; how many more there are is told
-  --tag TAG            only entries with this tag's code
+  --tag TAG            only entries with this tag's code; text in any language, as UTF-8
   --body               also the body; one that does not match its checksum is a fault
   --json               one object
   --jsonl              JSON Lines: an object for each record, the last line has the rest
@@ -141,8 +142,8 @@ swistopal check DIR [--bodies] [--queues FILE] [--slots K] [--items N] [--json|-
 
 Walks log, queues and index and says what is sound, where it stops and with which number, what is missing, and what to do
 next. Queues and index are compared with those that the log gives, which are made in memory, behind damage too. What is
-only past a limit of this tool is told as a limit, what is older than the log is counted, and neither is a fault. Nothing
-is written.
+only past a limit of this tool is told as a limit, what is older than the log is counted, and neither is a fault. A record
+whose text is no UTF-8 is damaged: which part of it, at which byte and what stands there is told. Nothing is written.
 
   --bodies             also judge each body by its checksum
   --queues FILE        compare only these queues; as for rebuild

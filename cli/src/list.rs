@@ -224,7 +224,7 @@ impl Listing {
     fn end(&mut self, log: &Log, end: &End, cut: bool, hints: &[String]) -> Result<(), Failure> {
         let sentence = match cut {
             true => String::from("cut at --limit"),
-            false => end.answer.to_string(),
+            false => end.reason(),
         };
         let tail = Object::new()
             .number("stop", end.answer.number().into())

@@ -1,9 +1,11 @@
 //! The commit log of a store folder, or one segment file, as runs of bytes.
 
 mod before;
+mod frame;
 mod on;
 mod segments;
 
+pub use frame::BadText;
 pub use on::{Cause, Met, Passed, Place, Skipped};
 pub use segments::{numbered_name, LAST_END};
 
@@ -82,6 +84,8 @@ pub enum Why {
     Gap(LogPosition),
     /// What stands here cannot be read.
     Stop,
+    /// A record whose text is no UTF-8; nothing else is wrong with it.
+    Text(BadText),
 }
 
 impl Log {
@@ -241,7 +245,7 @@ impl Log {
         let (answer, why) = if position == stretch.end {
             (Answer::Done, Why::Bytes)
         } else if self.end_given || !stretch.zeros_at(position) {
-            (answer, Why::Stop)
+            return self.stop_at(position, answer);
         } else {
             match stretch.data_after(position) {
                 None => (Answer::Done, Why::Zeros),
@@ -252,6 +256,16 @@ impl Log {
             position,
             answer,
             why,
+        }
+    }
+
+    /// What stands here cannot be read.
+    fn stop_at(&self, position: LogPosition, answer: Answer) -> End {
+        let text = self.bad_text(position, answer);
+        End {
+            position,
+            answer,
+            why: text.map_or(Why::Stop, Why::Text),
         }
     }
 
@@ -357,11 +371,19 @@ impl End {
                 "stops at {position} with 10: zeros stand there, but other bytes again from {} on",
                 again.0
             ),
-            Why::Stop => format!(
+            Why::Stop | Why::Text(_) => format!(
                 "stops at {position} with {}: {}",
                 self.answer.number(),
-                self.answer
+                self.reason()
             ),
+        }
+    }
+
+    /// What the number says, and which text of a record is no UTF-8 where that is all that is wrong.
+    pub fn reason(&self) -> String {
+        match self.why {
+            Why::Text(text) => format!("{}; {}", self.answer, text.sentence()),
+            _ => self.answer.to_string(),
         }
     }
 

@@ -11,7 +11,9 @@ use std::fmt::Write;
 use std::path::Path;
 use swistopal::{makes_entry, Answer, Entry, LogPosition, Message, Progress, QueueOffset, Sizes};
 
-const TITLE: &str = "swistopal rebuild 1";
+const TITLE: &str = "swistopal rebuild";
+/// It changes with what a rebuild makes of a log: 1 had hashes of bytes, which do not go together with those of text.
+const VERSION: &str = "2";
 
 #[derive(Clone, PartialEq, Eq)]
 pub struct Plan {
@@ -304,7 +306,7 @@ impl Plan {
 
     pub fn to_text(&self) -> String {
         let mut text = format!(
-            "{TITLE}\nsegment {}\nfirst {}\nentries {}\nslots {}\nitems {}\nname {}\n",
+            "{TITLE} {VERSION}\nsegment {}\nfirst {}\nentries {}\nslots {}\nitems {}\nname {}\n",
             self.sizes.segment_size,
             self.sizes.first_position.0,
             self.sizes.queue_entries,
@@ -320,10 +322,19 @@ impl Plan {
         text
     }
 
+    /// Whether another version of this tool has written it.
+    pub fn is_of_another_version(text: &str) -> bool {
+        let title = text.lines().next().unwrap_or_default();
+        let version = title
+            .strip_prefix(TITLE)
+            .and_then(|rest| rest.strip_prefix(' '));
+        version.is_some_and(|version| version != VERSION && number(version).is_some())
+    }
+
     pub fn of_text(text: &str) -> Option<Plan> {
         let mut lines = text.lines();
         let mut field = |name: &str| lines.next()?.strip_prefix(name)?.strip_prefix(' ');
-        field(TITLE.strip_suffix(" 1")?).filter(|version| *version == "1")?;
+        field(TITLE).filter(|version| *version == VERSION)?;
         let mut size = |name: &str| number(field(name)?);
         let sizes = Sizes {
             segment_size: size("segment")?,

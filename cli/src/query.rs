@@ -11,7 +11,7 @@ use crate::note;
 use crate::queues;
 use crate::record::{self, With};
 use crate::shell;
-use crate::text::{counted, shown, shown_path, strings, Object};
+use crate::text::{counted, shown, shown_path, strings, NoText, Object};
 use crate::wanted::{self, times, Seen};
 use search::{Asked, Search};
 use std::collections::BTreeSet;
@@ -65,13 +65,10 @@ pub fn run(args: &Args) -> Result<Outcome, Failure> {
 fn asked(args: &Args) -> Result<Asked<'_>, Failure> {
     let (key, unique) = match (args.value("--key"), args.value("--unique-key")) {
         (Some(_), Some(_)) => return usage("--key and --unique-key: one of them is enough"),
-        (None, Some(_)) => (args.bytes("--unique-key")?, true),
-        _ => (args.bytes("--key")?, false),
+        (None, Some(_)) => (args.text("--unique-key")?.as_bytes(), true),
+        _ => (args.text("--key")?.as_bytes(), false),
     };
-    let topic = match args.value("--topic") {
-        Some(_) => Some(args.bytes("--topic")?),
-        None => None,
-    };
+    let topic = args.optional_text("--topic")?.map(str::as_bytes);
     let topic_fits = topic.is_none_or(|topic| (1..=127).contains(&topic.len()));
     if !topic_fits || !(1..=32_767).contains(&key.len()) {
         return usage("a topic has 1 to 127 bytes, a key 1 to 32,767");
@@ -137,23 +134,15 @@ fn topics(args: &Args, search: &mut Search) -> Result<BTreeSet<Vec<u8>>, Failure
         Ok(true)
     })?;
     let mut topics = seen.topics;
-    // The archive asks for no other ones.
-    topics.retain(|topic| (1..=127).contains(&topic.len()));
+    // The archive asks for no other ones; a folder may have any name.
+    topics.retain(|topic| (1..=127).contains(&topic.len()) && NoText::of(topic).is_none());
     Ok(topics)
 }
 
-/// What may help where the index found nothing, or not all.
+/// What may help where the index found nothing.
 fn hints_on_index(args: &Args, search: &Search, indexes: &[Index]) -> Result<Vec<String>, Failure> {
     let asked = search.asked;
     let mut hints = Vec::new();
-    for (name, bytes) in [("topic", asked.topic.unwrap_or(b"")), ("key", asked.key)] {
-        if !bytes.is_ascii() {
-            hints.push(format!(
-                "the {name} is not ASCII: an index that a RocketMQ broker wrote has another hash for it than the one that is \
-                 asked for here, so records may be missing; --scan looks through the log itself"
-            ));
-        }
-    }
     if !search.found.is_empty() {
         return Ok(hints);
     }

@@ -70,20 +70,17 @@ struct Asked<'a> {
     queue: Queue,
     start: u64,
     limit: u64,
-    tag: Option<&'a [u8]>,
+    tag: Option<&'a str>,
 }
 
 impl Asked<'_> {
     fn of(args: &Args) -> Result<Asked<'_>, Failure> {
-        let topic = args.bytes("--topic")?.to_vec();
+        let topic = args.text("--topic")?.as_bytes().to_vec();
         let Some(id) = args.number_within("--queue", 0, (1 << 31) - 1)? else {
             return usage("--queue is needed");
         };
         let id = id as u32;
-        let tag = match args.value("--tag") {
-            Some(_) => Some(args.bytes("--tag")?),
-            None => None,
-        };
+        let tag = args.optional_text("--tag")?;
         Ok(Asked {
             queue: Queue { topic, id },
             start: args.number("--start")?.unwrap_or(0),
@@ -131,11 +128,6 @@ impl Asked<'_> {
         if self.tag.is_some() && self.queue.topic == DELAYED {
             hints.push(String::from(
                 "the codes of delayed messages are the times of their delivery: no tag is found among them",
-            ));
-        } else if self.tag.is_some_and(|tag| !tag.is_ascii()) {
-            hints.push(String::from(
-                "the tag is not ASCII: queues that a RocketMQ broker wrote have another code for it than the one that is \
-                 asked for here, so records may be missing",
             ));
         }
         hints
@@ -306,14 +298,14 @@ fn read(
 }
 
 /// A tag's code, if a record can have the tag.
-fn tag_code(tag: &[u8]) -> Result<u64, Failure> {
-    if tag.is_empty() || tag.len() > 32_000 || tag.iter().any(|byte| matches!(byte, 1 | 2)) {
+fn tag_code(tag: &str) -> Result<u64, Failure> {
+    if tag.is_empty() || tag.len() > 32_000 || tag.contains(['\u{1}', '\u{2}']) {
         return usage(format!(
             "--tag {}: a tag has 1 to 32,000 bytes, none of them 01 or 02",
-            shown(tag)
+            shown(tag.as_bytes())
         ));
     }
-    Ok(swistopal::tag_code(tag))
+    Ok(swistopal::tag_code(tag.as_bytes()))
 }
 
 #[cfg(test)]
@@ -322,11 +314,12 @@ mod tests {
 
     #[test]
     fn tag_codes_are_those_of_the_bench() {
-        let code = |tag: &[u8]| tag_code(tag).ok();
-        assert_eq!(code(b"Aa"), Some(2112));
-        assert_eq!(code(b"\xc3\xa9"), Some(6214));
-        assert_eq!(code(b"polygenelubricants"), Some(0xffff_ffff_8000_0000));
-        assert_eq!(code(b""), None);
-        assert_eq!(code(b"a\x01"), None);
+        let code = |tag: &str| tag_code(tag).ok();
+        assert_eq!(code("Aa"), Some(2112));
+        assert_eq!(code("é"), Some(233));
+        assert_eq!(code("\u{1f600}"), Some(1_772_899));
+        assert_eq!(code("polygenelubricants"), Some(0xffff_ffff_8000_0000));
+        assert_eq!(code(""), None);
+        assert_eq!(code("a\u{1}"), None);
     }
 }

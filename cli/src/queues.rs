@@ -4,7 +4,7 @@ use crate::failure::{fault, usage, Failure};
 use crate::files::{self, Refused, Unfit};
 use crate::log::numbered_name;
 use crate::map::View;
-use crate::text::{grouped, shown, shown_path};
+use crate::text::{grouped, shown, shown_path, NoText};
 use std::cmp::Ordering;
 use std::collections::HashMap;
 use std::ffi::OsStr;
@@ -45,7 +45,7 @@ impl Queue {
         format!("{}/{}", shown(&self.topic), self.id)
     }
 
-    /// Its folder. A topic from a log may be any bytes; only one that is a folder's name may become a path.
+    /// Its folder. A topic from a log may be any text; only one that is a folder's name may become a path.
     pub fn folder(&self, consumequeue: &Path) -> Result<PathBuf, Failure> {
         let topic = &self.topic;
         let no_name = topic.is_empty() || topic == b"." || topic == b"..";
@@ -296,9 +296,13 @@ fn folders(folder: &Path) -> Result<Vec<PathBuf>, Refused> {
 
 /// A file of lines `TOPIC QUEUE`; the topic as the tool shows it.
 pub fn read_list(path: &Path) -> Result<Vec<Queue>, Failure> {
-    let text = match fs::read_to_string(path) {
-        Ok(text) => text,
+    let bytes = match fs::read(path) {
+        Ok(bytes) => bytes,
         Err(error) => return usage(format!("--queues {}: {error}", shown_path(path))),
+    };
+    let text = match str::from_utf8(&bytes) {
+        Ok(text) => text,
+        Err(_) => return no_text(path, &bytes),
     };
     let mut queues: Vec<Queue> = Vec::new();
     for (number, line) in text.lines().enumerate() {
@@ -330,6 +334,19 @@ pub fn read_list(path: &Path) -> Result<Vec<Queue>, Failure> {
         ));
     }
     Ok(queues)
+}
+
+/// That a list of queues is no text, and where.
+fn no_text<T>(path: &Path, bytes: &[u8]) -> Result<T, Failure> {
+    let mut lines = bytes.split(|byte| *byte == b'\n').zip(1..);
+    let flaw = lines.find_map(|(line, number)| Some((NoText::of(line)?, number)));
+    let (flaw, number) = flaw.expect("a line end is a character by itself");
+    usage(format!(
+        "{}, line {number}: it is no UTF-8, which topics are: at byte {}, the first one being 0, stands {}",
+        shown_path(path),
+        flaw.at,
+        flaw.what()
+    ))
 }
 
 /// The directory that the archive is lent.

@@ -110,8 +110,10 @@ pub fn not_read(log: &Log, position: LogPosition, answer: Answer) -> String {
             true => String::new(),
             false => format!("; its files end at {}", log.files_end().0),
         };
+        let text = log.bad_text(position, answer);
+        let text = text.map_or(String::new(), |text| format!("; {}", text.sentence()));
         let number = answer.number();
-        format!("where reading the log answers {number}: {answer}{end}")
+        format!("where reading the log answers {number}: {answer}{text}{end}")
     }
 }
 
@@ -214,6 +216,7 @@ pub fn kind(entry: &Entry) -> &'static str {
 pub fn skipped_line(skipped: &Skipped) -> String {
     let why = match skipped.why {
         Cause::Answer(answer) => format!("damage {}", answer.number()),
+        Cause::Text(_) => format!("damage {}", Answer::Damaged.number()),
         Cause::Zeros => String::from("damage zeros"),
         Cause::NoFile => String::from("damage missing"),
         Cause::LongHosts(records) => format!("long-hosts {records}"),
@@ -229,6 +232,10 @@ pub fn skipped_object(skipped: &Skipped) -> String {
         .truth("damage", skipped.is_damage());
     let object = match skipped.why {
         Cause::Answer(answer) => object.number("answer", answer.number().into()),
+        Cause::Text(text) => {
+            let object = object.number("answer", Answer::Damaged.number().into());
+            object.raw("no_utf8", &text.object())
+        }
         Cause::Zeros => object.truth("zeros", true),
         Cause::NoFile => object.truth("missing", true),
         Cause::LongHosts(records) => object.number("long_hosts", records),

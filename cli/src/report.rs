@@ -212,7 +212,7 @@ impl Report {
             .number("start", self.from.0)
             .number("end", end.position.0)
             .number("stop", end.answer.number().into())
-            .text("sentence", &end.answer.to_string())
+            .text("sentence", &end.reason())
             .number("long_hosts", passed.left_out.long_hosts)
             .raw("hints", &strings(&self.hints))
             .raw("limits", &strings(&self.limits))

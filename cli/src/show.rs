@@ -5,7 +5,7 @@ use crate::crc;
 use crate::failure::{fault, usage, Failure, Outcome};
 use crate::log::{self, Cause, Log, Place};
 use crate::record::{self, Read};
-use crate::text::{array, counted, grouped, of_bytes, shown, Object};
+use crate::text::{array, counted, grouped, of_bytes, shown, width, Object};
 use crate::time;
 use crate::{note, out};
 use std::io::{self, Write};
@@ -225,8 +225,8 @@ fn properties(out: &mut impl Write, message: &Message) -> io::Result<()> {
         Piece::Pair(name, _) => shown(name),
         Piece::Other(_) => String::from("(no pair)"),
     };
-    let widths = all.iter().map(|piece| name(piece).chars().count());
-    let width = widths.max().unwrap_or(0);
+    let widest = all.iter().map(|piece| width(&name(piece))).max();
+    let widest = widest.unwrap_or(0);
     for (number, piece) in all.iter().enumerate() {
         let (value, again) = match piece {
             Piece::Pair(name, value) => {
@@ -238,7 +238,9 @@ fn properties(out: &mut impl Write, message: &Message) -> io::Result<()> {
             Piece::Other(value) => (value, false),
         };
         let note = if again { "  (a later one counts)" } else { "" };
-        writeln!(out, "  {:width$}  {}{note}", name(piece), shown(value))?;
+        let name = name(piece);
+        let room = " ".repeat(widest - width(&name));
+        writeln!(out, "  {name}{room}  {}{note}", shown(value))?;
     }
     Ok(())
 }

@@ -1,4 +1,4 @@
-//! Bytes and numbers as text that a terminal, a plan file, a JSON reader or a browser takes.
+//! Bytes and numbers as text that a terminal, a plan file, a JSON reader or a browser takes; and where bytes are no text.
 
 use std::fmt::Write;
 use std::os::unix::ffi::OsStrExt;
@@ -38,9 +38,97 @@ pub fn is_unseen(character: char) -> bool {
             | '\u{1bca0}'..='\u{1bca3}' | '\u{1d173}'..='\u{1d17a}' | '\u{e0000}'..='\u{e0fff}')
 }
 
+/// Columns that text takes in a terminal: marks that stand above or below another character take none, characters that are as
+/// wide as they are high take two. Of rare scripts it may be another number, which only moves a column.
+pub fn width(text: &str) -> usize {
+    text.chars().map(width_of).sum()
+}
+
+fn width_of(character: char) -> usize {
+    match character {
+        '\u{300}'..='\u{36f}'
+        | '\u{483}'..='\u{489}'
+        | '\u{591}'..='\u{5bd}'
+        | '\u{64b}'..='\u{65f}'
+        | '\u{1ab0}'..='\u{1aff}'
+        | '\u{1dc0}'..='\u{1dff}'
+        | '\u{20d0}'..='\u{20f0}'
+        | '\u{3099}'..='\u{309a}'
+        | '\u{fe20}'..='\u{fe2f}' => 0,
+        '\u{1100}'..='\u{115f}'
+        | '\u{2e80}'..='\u{303e}'
+        | '\u{3041}'..='\u{4dbf}'
+        | '\u{4e00}'..='\u{a4cf}'
+        | '\u{a960}'..='\u{a97f}'
+        | '\u{ac00}'..='\u{d7a3}'
+        | '\u{f900}'..='\u{faff}'
+        | '\u{fe30}'..='\u{fe6f}'
+        | '\u{ff01}'..='\u{ff60}'
+        | '\u{ffe0}'..='\u{ffe6}'
+        | '\u{1f300}'..='\u{1f64f}'
+        | '\u{1f680}'..='\u{1f6ff}'
+        | '\u{1f900}'..='\u{1faff}'
+        | '\u{20000}'..='\u{3fffd}' => 2,
+        _ => 1,
+    }
+}
+
+/// Where bytes stop being UTF-8, and what stands there.
+#[derive(Clone, Copy, Debug, PartialEq, Eq)]
+pub struct NoText {
+    /// From the first byte on, which is 0.
+    pub at: usize,
+    bytes: [u8; NoText::SHOWN],
+    length: usize,
+    /// Whether they end inside a character.
+    cut: bool,
+}
+
+impl NoText {
+    /// No character has more bytes.
+    const SHOWN: usize = 4;
+
+    pub fn of(bytes: &[u8]) -> Option<NoText> {
+        let error = std::str::from_utf8(bytes).err()?;
+        let rest = &bytes[error.valid_up_to()..];
+        let length = rest.len().min(NoText::SHOWN);
+        let mut there = [0; NoText::SHOWN];
+        there[..length].copy_from_slice(&rest[..length]);
+        Some(NoText {
+            at: error.valid_up_to(),
+            bytes: there,
+            length,
+            cut: error.error_len().is_none(),
+        })
+    }
+
+    /// The bytes that stand there, up to four, as hexadecimal digits.
+    pub fn hex(&self) -> String {
+        hex_digits(&self.bytes[..self.length], "")
+    }
+
+    /// A part of a sentence: what stands there.
+    pub fn what(&self) -> String {
+        let there = hex_digits(&self.bytes[..self.length], " ");
+        match self.cut {
+            true => format!("{there}, a character that is cut short"),
+            false => format!("{there}, where no character starts"),
+        }
+    }
+}
+
 /// A path as one line of text: a worn disk may have any bytes in its names.
 pub fn shown_path(path: impl AsRef<Path>) -> String {
     shown(path.as_ref().as_os_str().as_bytes())
+}
+
+fn hex_digits(bytes: &[u8], between: &str) -> String {
+    let mut digits = String::new();
+    for byte in bytes {
+        let before = if digits.is_empty() { "" } else { between };
+        write!(digits, "{before}{byte:02x}").expect("a string takes all");
+    }
+    digits
 }
 
 fn push_hex_escapes(text: &mut String, bytes: &[u8]) {
@@ -200,11 +288,7 @@ pub fn of_bytes(value: &[u8]) -> String {
     if let Ok(text) = std::str::from_utf8(value) {
         return string(text);
     }
-    let mut digits = String::new();
-    for byte in value {
-        write!(digits, "{byte:02x}").expect("a string takes all");
-    }
-    Object::new().text("hex", &digits).end()
+    Object::new().text("hex", &hex_digits(value, "")).end()
 }
 
 fn push_string(text: &mut String, value: &str) {
@@ -254,6 +338,51 @@ mod tests {
         }
         assert_eq!(string("\u{9b}\u{202e}"), r#""\u009b\u202e""#);
         assert_eq!(string("\u{e0041}"), r#""\udb40\udc41""#);
+    }
+
+    #[test]
+    fn columns_are_those_of_a_terminal() {
+        for (text, columns) in [
+            ("", 0),
+            ("Müller", 6),
+            ("Mu\u{308}ller", 6),
+            ("Ωμέγα", 5),
+            ("東京", 4),
+            ("\u{1f4e6}7", 3),
+        ] {
+            assert_eq!(width(text), columns, "{text}");
+        }
+    }
+
+    #[test]
+    fn what_is_no_text_is_told_with_its_place() {
+        for (bytes, at, what) in [
+            (
+                &b"M\xfcller"[..],
+                1,
+                "fc 6c 6c 65, where no character starts",
+            ),
+            (b"\xc0\x80", 0, "c0 80, where no character starts"),
+            (b"a\xed\xa0\x80", 1, "ed a0 80, where no character starts"),
+            (
+                b"\xf4\x90\x80\x80",
+                0,
+                "f4 90 80 80, where no character starts",
+            ),
+            (
+                b"\xe2\x82\xac\xe2\x82",
+                3,
+                "e2 82, a character that is cut short",
+            ),
+            (b"\xc3", 0, "c3, a character that is cut short"),
+        ] {
+            let found = NoText::of(bytes).unwrap();
+            assert_eq!((found.at, found.what().as_str()), (at, what));
+        }
+        assert_eq!(
+            NoText::of("Müller 東京 \u{1f4e6}\0\u{ffff}".as_bytes()),
+            None
+        );
     }
 
     #[test]

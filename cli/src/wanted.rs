@@ -58,10 +58,7 @@ pub fn seconds(args: &Args, options: &[&str]) -> Vec<String> {
 
 impl<'a> Wanted<'a> {
     pub fn of(args: &'a Args, from: &str, to: &str) -> Result<Wanted<'a>, Failure> {
-        let topic = match args.value("--topic") {
-            Some(_) => Some(args.bytes("--topic")?),
-            None => None,
-        };
+        let topic = args.optional_text("--topic")?.map(str::as_bytes);
         let times = times(args, from, to)?;
         Ok(Wanted {
             topic,

@@ -504,8 +504,13 @@ pub fn plan_under_way(store: &Path) -> Result<Option<Plan>, Failure> {
         return Ok(None);
     }
     let text = fs::read(&path).at("read", &path)?;
-    match str::from_utf8(&text).ok().and_then(Plan::of_text) {
+    let text = str::from_utf8(&text).unwrap_or_default();
+    match Plan::of_text(text) {
         Some(plan) => Ok(Some(plan)),
+        None if Plan::is_of_another_version(text) => fault(format!(
+            "{}: another version of this tool has begun the rebuild; --restart begins anew",
+            shown_path(path)
+        )),
         None => fault(format!(
             "{}: it is damaged; --restart begins anew",
             shown_path(path)

@@ -363,7 +363,7 @@ fn a_rebuild_under_way_is_gone_on_with_or_begun_anew() {
 
         // A plan that cannot be read, and one of another log: only a new one helps.
         let other =
-            "swistopal rebuild 1\nsegment 1024\nfirst 0\nentries 1\nslots 1\nitems 2\nname 0\n";
+            "swistopal rebuild 2\nsegment 1024\nfirst 0\nentries 1\nslots 1\nitems 2\nname 0\n";
         for damaged in ["swistopal rebuild 2\n", other] {
             tool("rebuild", &store, &part).is(0, "stop      9");
             fs::write(store.join("swistopal.rebuild/plan"), damaged).unwrap();

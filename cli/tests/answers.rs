@@ -188,31 +188,6 @@ fn topics_and_times_that_are_not_there_are_told() {
     assert!(!milliseconds.err.contains("meant"), "{}", milliseconds.err);
 }
 
-/// A broker hashes a key as Java does, by UTF-16 units.
-#[test]
-fn a_key_that_is_not_ascii_is_told() {
-    let folder = Folder::new("ascii");
-    let mut broker = Broker::new(&folder.join("store"));
-    for keys in ["P1", "Päckchen", "箱"] {
-        broker.put(Message {
-            keys,
-            ..Message::default()
-        });
-    }
-    let store = broker.finish();
-    for key in ["Päckchen", "箱"] {
-        let ask = ["--topic", "T", "--key", key];
-        query(&store, &ask)
-            .is(0, "the key is not ASCII")
-            .is(0, "--scan");
-        query(&store, &[&ask[..], &["--scan"]].concat())
-            .is(0, "1 record of topic T with key ")
-            .is(0, "3 records of the log read");
-    }
-    let ascii = query(&store, &["--topic", "T", "--key", "P1"]);
-    assert!(!ascii.is(0, "1 record").err.contains("ASCII"));
-}
-
 #[test]
 fn a_query_needs_no_topic_and_knows_unique_keys() {
     let folder = Folder::new("topics");

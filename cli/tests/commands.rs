@@ -91,7 +91,9 @@ fn man_page_and_completion_have_every_option() {
 fn completion_completes() {
     let folder = Folder::new("completion");
     let store = built(&folder, "store");
-    fs::create_dir(store.join("consumequeue/$(touch pwned) x")).unwrap();
+    for topic in ["$(touch pwned) x", "Förderstraße", "分拣 📦"] {
+        fs::create_dir(store.join("consumequeue").join(topic)).unwrap();
+    }
     let script = concat!(env!("CARGO_MANIFEST_DIR"), "/completion.bash");
     let complete = |words: &[&str]| {
         let call = "source \"$1\"; shift; COMP_WORDS=(\"$@\"); COMP_CWORD=$(($# - 1)); _swistopal; printf '%s\\n' \"${COMPREPLY[@]}\"";
@@ -99,6 +101,7 @@ fn completion_completes() {
             .args(["-c", call, "bash", script, "swistopal"])
             .args(words)
             .current_dir(&folder.0)
+            .env("LC_ALL", "C.UTF-8")
             .output()
             .unwrap();
         String::from_utf8(output.stdout).unwrap()
@@ -116,6 +119,13 @@ fn completion_completes() {
         complete(&["query", "store", "--topic", "$"]),
         "\\$\\(touch\\ pwned\\)\\ x\n"
     );
+    for (start, topic) in [
+        ("F", "Förderstraße\n"),
+        ("Fö", "Förderstraße\n"),
+        ("分", "分拣\\ 📦\n"),
+    ] {
+        assert_eq!(complete(&["query", "store", "--topic", start]), topic);
+    }
     assert_eq!(complete(&["query", "store", "--key", "P"]), "\n");
     assert!(!folder.join("pwned").exists());
 }

@@ -492,22 +492,22 @@ fn stops_of_a_rebuild() {
     made(&odd, 0, 4096, 2, |position, number| {
         record(
             position,
-            b"\x1b[2J \\ \xff",
+            "\x1b[2J \\ ÿ".as_bytes(),
             (0, number),
             1000,
-            b"KEYS\x01\xfe\x02TAGS\x01\x07",
+            "KEYS\x01ß\x02TAGS\x01\x07".as_bytes(),
         )
     });
     tool("rebuild", &odd, &[&SMALL[..], &["--budget", "1"]].concat())
-        .is(0, "\\x1b[2J \\\\ \\xff/0: 1 entry");
+        .is(0, "\\x1b[2J \\\\ ÿ/0: 1 entry");
     tool("rebuild", &odd, &[]).is(0, "stop      0");
     tool("check", &odd, &["--json"]).is(0, "").json();
-    tool("list", &odd, &["--long"]).is(0, "\\x07 / \\xfe");
+    tool("list", &odd, &["--long"]).is(0, "\\x07 / ß");
     let json = tool("list", &odd, &["--json"]).is(0, "").json();
     let first = &json.get("entries").list()[0];
     assert_eq!(
-        first.get("topic").get("hex"),
-        &Json::Text(String::from("1b5b324a205c20ff"))
+        first.get("topic"),
+        &Json::Text(String::from("\x1b[2J \\ ÿ"))
     );
 }
 
@@ -587,8 +587,14 @@ fn work_folders_that_are_not_as_left() {
     edit(&work("journal"), |bytes| bytes[50] ^= 1);
     tool("rebuild", &store, &[]).is(1, "journal: it is damaged; --restart begins anew");
     tool("rebuild", &store, &["--restart", "--budget", "5"]).is(0, "stop      9");
-    fs::write(work("plan"), "swistopal rebuild 2\n").unwrap();
-    tool("rebuild", &store, &[]).is(1, "plan: it is damaged; --restart begins anew");
+    for damaged in ["swistopal rebuild 2\n", "swistopal rebuild x\n", ""] {
+        fs::write(work("plan"), damaged).unwrap();
+        tool("rebuild", &store, &[]).is(1, "plan: it is damaged; --restart begins anew");
+    }
+    fs::write(work("plan"), "swistopal rebuild 1\n").unwrap();
+    let another = "plan: another version of this tool has begun the rebuild; --restart begins anew";
+    tool("rebuild", &store, &[]).is(1, another);
+    tool("check", &store, &[]).is(1, another);
 
     // The index of the work folder: a bad header, an item too many, a slot below 0.
     let index = |store: &Path| {

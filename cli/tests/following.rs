@@ -225,8 +225,17 @@ fn damage_log(site: &Site) {
 }
 
 /// Harm to the log.
-const LOG_HARMS: [(&str, Harm); 7] = [
+const LOG_HARMS: [(&str, Harm); 8] = [
     ("record", damage_log),
+    ("text", |site| {
+        let from = position(site, 20);
+        edit(&segment(&site.store, 0), |bytes| {
+            let tag = bytes[from..]
+                .windows(5)
+                .position(|five| five == b"TAGS\x01");
+            bytes[from + tag.unwrap() + 5] = 0xff
+        })
+    }),
     ("zeros", |site| {
         let from = position(site, 20);
         edit(&segment(&site.store, 0), |bytes| {
@@ -358,9 +367,19 @@ fn on_damaged_results() {
 }
 
 #[test]
+fn on_damaged_results_with_accents() {
+    let trial = Trial::new("follow-accents");
+    for (name, harm) in RESULT_HARMS {
+        let site = accents(&trial.store(name));
+        harm(&site);
+        trial.follow(&site, &[]);
+    }
+}
+
+#[test]
 fn on_damaged_results_beyond_a_limit() {
     let trial = Trial::new("follow-beyond");
-    for (number, make) in [forty_queues, rolled_index, delayed, long_hosts, accents]
+    for (number, make) in [forty_queues, rolled_index, delayed, long_hosts]
         .into_iter()
         .enumerate()
     {

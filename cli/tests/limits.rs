@@ -301,10 +301,11 @@ fn foreign_files_are_no_fault() {
 }
 
 #[test]
-fn hashes_of_java_are_no_fault() {
-    let folder = Folder::new("limit-accents");
+fn accents_are_neither_a_fault_nor_a_limit() {
+    let folder = Folder::new("normal-accents");
     let site = accents(&folder.join("store"));
-    checks(&site.store, &[], &["ASCII"]);
+    checks(&site.store, &[], &[]);
+    tool("check", &site.store, &[]).is(0, "nothing: the store is sound");
     finds_all(&site);
     shows_all(&site, 0);
 }

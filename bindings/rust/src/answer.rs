@@ -14,7 +14,7 @@ pub enum Answer {
     BadDirectory = 3,
     /// The index header is bad.
     BadHeader = 4,
-    /// The append request is outside the record rules.
+    /// The append request is outside the record rules, or its text is no UTF-8.
     BadRequest = 5,
     /// The log is full.
     LogFull = 6,
@@ -24,7 +24,7 @@ pub enum Answer {
     NotReadable = 8,
     /// The budget is spent.
     BudgetSpent = 9,
-    /// The record is damaged.
+    /// The record is damaged, or its text is no UTF-8.
     Damaged = 10,
     /// The queue is not listed.
     QueueNotListed = 11,
@@ -38,7 +38,7 @@ pub enum Answer {
     IndexAhead = 15,
     /// The chain is broken.
     ChainBroken = 16,
-    /// The query or the queue reading is malformed.
+    /// The query or the queue reading is malformed, or the query's topic or key is no UTF-8.
     Malformed = 17,
 }
 

@@ -7,6 +7,12 @@
 //! Six small functions tell what a record makes and whether an index is sound: [`tag_code`], [`makes_entry`],
 //! [`item_count`], [`has_item`], [`find_values`], [`check_index`].
 //!
+//! Topics, keys and tags are text in any language, given as the bytes of their UTF-8 (`"Müller-7".as_bytes()`) and hashed as
+//! Java hashes strings, by UTF-16 units. Bytes that are no UTF-8 (RFC 3629) in a topic, or in the values of TAGS, KEYS and
+//! UNIQ_KEY that count, make a record unsound: [`append`] refuses it with [`Answer::BadRequest`], and where it stands in a log it
+//! is [`Answer::Damaged`]. A [`query`] whose topic or key is no UTF-8 is [`Answer::Malformed`]. Nothing else is judged: neither
+//! other properties nor the topics of a directory.
+//!
 //! ```
 //! use swistopal::*;
 //!
@@ -23,7 +29,7 @@
 //! let message = Message {
 //!     fields: Fields { store_time: 10_000, ..Fields::default() },
 //!     topic: b"SORTER",
-//!     properties: b"TAGS\x01divert\x02UNIQ_KEY\x01parcel-17\x02",
+//!     properties: "TAGS\x01divert\x02UNIQ_KEY\x01parcel-17\x02KEYS\x01Müller-7\x02".as_bytes(),
 //!     ..Message::default()
 //! };
 //! assert_eq!(append(&mut log, &sizes, &message, &mut write_position)?, Appended::Record);
@@ -47,7 +53,7 @@
 //!     index: &index,
 //!     sizes,
 //!     topic: b"SORTER",
-//!     key: b"parcel-17",
+//!     key: "Müller-7".as_bytes(),
 //!     first_time: 0,
 //!     last_time: 20_000,
 //!     wanted: 0,
@@ -95,6 +101,8 @@ pub enum Appended {
 /// assert_eq!(position, LogPosition(1024 + 93));
 /// let mut refused = |message| append(&mut log, &sizes, &message, &mut position) == Err(Answer::BadRequest);
 /// assert!(refused(Message { topic: b"", ..message }));
+/// assert!(refused(Message { topic: b"T\xfc", ..message }));
+/// assert!(refused(Message { properties: b"TAGS\x01\xff", ..message }));
 /// assert!(refused(Message { store_host: &[0; 20], ..message }));
 /// assert!(refused(Message { fields: Fields { flag: 1 << 32, ..Fields::default() }, ..message }));
 /// ```
@@ -135,7 +143,7 @@ pub fn append(
 const BLANK: u64 = 2;
 
 /// Reads the record or blank at a position, wholly below the readable end. Of the sizes it looks at the segment size and the
-/// first position.
+/// first position. The topic of a record that was read is UTF-8, and so are its values of TAGS, KEYS and UNIQ_KEY.
 ///
 /// ```
 /// use swistopal::*;
@@ -155,6 +163,8 @@ const BLANK: u64 = 2;
 /// assert_eq!(read_record(&log, &sizes, LogPosition(0), end)?, Entry::Record { total: 99, message });
 /// assert_eq!(read_record(&log, &sizes, LogPosition(0), LogPosition(98)), Err(Answer::NotReadable));
 /// assert_eq!(read_record(&log, &sizes, LogPosition(1), end), Err(Answer::Damaged));
+/// log[96] = 0xff;
+/// assert_eq!(read_record(&log, &sizes, LogPosition(0), end), Err(Answer::Damaged));
 /// # Ok(())
 /// # }
 /// ```
@@ -347,7 +357,9 @@ pub struct Query<'a> {
     pub index: &'a [u8],
     /// Only the slot count and the item count are looked at.
     pub sizes: Sizes,
+    /// UTF-8, 1 to 127 bytes.
     pub topic: &'a [u8],
+    /// UTF-8, 1 to 32,767 bytes.
     pub key: &'a [u8],
     pub first_time: u64,
     pub last_time: u64,
@@ -384,6 +396,9 @@ pub struct Found<'o> {
 /// let found = Found { stop: Answer::Done, positions: &[], items_read: 0 };
 /// assert_eq!(query(&question, &mut out), Ok(found));
 /// assert_eq!(query(&question, &mut out[..31]), Err(Answer::Malformed));
+/// // Topic and key are each a text by itself.
+/// let cut = Query { topic: b"\xc3", key: b"\xa9", ..question };
+/// assert_eq!(query(&cut, &mut out), Err(Answer::Malformed));
 /// ```
 pub fn query<'o>(question: &Query, out: &'o mut [LogPosition]) -> Result<Found<'o>, Answer> {
     let mut found = archive::Found::default();

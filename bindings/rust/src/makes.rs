@@ -1,14 +1,18 @@
-//! What a record makes, so that no program has to repeat a rule. None of these refuses anything.
+//! What a record makes, so that no program has to repeat a rule. None of these refuses anything: they take any bytes and judge
+//! no text.
 
 use crate::{archive, Message};
 
-/// A tag's code, as a queue entry holds it. It is a bit pattern.
+/// A tag's code, as a queue entry holds it: Java's hash over its UTF-16 units. It is a bit pattern. Of bytes that are no UTF-8,
+/// which no record has as a tag, it is the code of the characters before the first place where none stands.
 ///
 /// ```
 /// use swistopal::tag_code;
 ///
 /// assert_eq!(tag_code(b"Aa"), 2112);
-/// assert_eq!(tag_code(b"\xc3\xa9"), 6214);
+/// assert_eq!(tag_code("é".as_bytes()), 233);
+/// assert_eq!(tag_code("😀".as_bytes()), 0xd83d * 31 + 0xde00);
+/// assert_eq!(tag_code(b"Aa\xffBB"), 2112);
 /// assert_eq!(tag_code(b"polygenelubricants"), 0xffff_ffff_8000_0000);
 /// assert_eq!(tag_code(b""), 0);
 /// ```
@@ -53,7 +57,7 @@ pub fn item_count(message: &Message) -> u64 {
     }
 }
 
-/// Whether a topic and key are among the items of a record; its system flag, its topic and its properties tell.
+/// Whether a topic and key are among the items of a record, byte for byte; its system flag, its topic and its properties tell.
 ///
 /// ```
 /// use swistopal::*;
@@ -62,6 +66,8 @@ pub fn item_count(message: &Message) -> u64 {
 /// assert!([&b"a"[..], b"b", b"u"].iter().all(|key| has_item(&message, b"T", key)));
 /// assert!(!has_item(&message, b"T", b"a b"));
 /// assert!(!has_item(&message, b"TT", b"a"));
+/// let accented = Message { properties: "KEYS\x01Müller-7".as_bytes(), ..message };
+/// assert!(has_item(&accented, b"T", "Müller-7".as_bytes()));
 /// message.fields.system_flag = 12;
 /// assert!(!has_item(&message, b"T", b"a"));
 /// ```
@@ -92,7 +98,7 @@ pub struct Values<'p> {
 }
 
 /// The values of TAGS, KEYS and UNIQ_KEY in a record's properties: of each name the last pair. A value has at least one
-/// byte.
+/// byte. In a record that was read each is UTF-8.
 ///
 /// ```
 /// use swistopal::{find_values, Values};

@@ -55,7 +55,9 @@ pub struct Message<'a> {
     pub born_host: &'a [u8],
     pub store_host: &'a [u8],
     pub body: &'a [u8],
+    /// UTF-8, 1 to 127 bytes.
     pub topic: &'a [u8],
+    /// The values of TAGS, KEYS and UNIQ_KEY that count are UTF-8.
     pub properties: &'a [u8],
 }
 

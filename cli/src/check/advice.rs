@@ -122,7 +122,12 @@ impl<'a> Site<'a> {
                 report.advise(format!("name an --end where a record ends, as {end}"));
             } else if skipped.why != Cause::NoFile {
                 let (name, path) = self.segment(skipped.from);
-                report.advise(format!("get another copy of {name}; {until}"));
+                // A broker takes the properties of a batch as its client sends them.
+                let same = match skipped.why {
+                    Cause::Text(_) => "; if that has the same bytes, a client has sent them so",
+                    _ => "",
+                };
+                report.advise(format!("get another copy of {name}{same}; {until}"));
                 files.push(path);
                 self.further_copies(skipped, report);
             }

@@ -187,8 +187,7 @@ impl Pass<'_> {
                 return Ok(());
             }
         };
-        let other_hash = !message.topic.is_ascii() || !message.properties.is_ascii();
-        self.merge.take(position, made.hashes, other_hash);
+        self.merge.take(position, made.hashes);
         if let Some(code) = made.code {
             self.sides.take(&Given {
                 entry: QueueEntry {
@@ -197,7 +196,6 @@ impl Pass<'_> {
                     code,
                 },
                 number: message.fields.queue_offset.0,
-                other_hash,
                 message,
                 passed: self.passed,
                 behind,

@@ -25,8 +25,6 @@ pub struct Merged<'a> {
     pub index: &'a Index,
     pub same: u64,
     pub differing: Tally<Difference>,
-    /// Items whose key is not ASCII and has another hash by Java's rule.
-    pub other_hash: u64,
     /// Items that a record has once more: a broker that did not end in order adds those of its last record again.
     pub repeated: u64,
     pub rest: Rest,
@@ -74,7 +72,6 @@ impl<'a> Merge<'a> {
             index,
             same: 0,
             differing: Tally::default(),
-            other_hash: 0,
             repeated: 0,
             rest: Rest::default(),
         });
@@ -116,29 +113,25 @@ impl<'a> Merge<'a> {
         (&mut self.files[file], item)
     }
 
-    /// A record's items. Keys that are not ASCII may have another hash by Java's rule.
-    pub fn take(&mut self, position: LogPosition, hashes: &[u32], other_hash: bool) {
+    /// A record's items.
+    pub fn take(&mut self, position: LogPosition, hashes: &[u32]) {
         for &hash in hashes {
             self.given += 1;
             let made = Item {
                 hash,
                 position: position.0,
             };
-            self.take_item(made, other_hash);
+            self.take_item(made);
         }
         self.last.0 = position.0;
         self.last.1.clear();
         self.last.1.extend(hashes);
     }
 
-    fn take_item(&mut self, made: Item, other_hash: bool) {
+    fn take_item(&mut self, made: Item) {
         while let Some(found) = self.peek() {
             if found == made {
                 self.pass().0.same += 1;
-                return;
-            }
-            if found.position == made.position && other_hash {
-                self.pass().0.other_hash += 1;
                 return;
             }
             if found.position == made.position || self.is_changed(found, made) {

@@ -74,6 +74,12 @@ impl Finding {
         self
     }
 
+    /// A value that is JSON already.
+    pub fn raw(mut self, name: &'static str, value: String) -> Finding {
+        self.values.push((name, value));
+        self
+    }
+
     fn object(&self) -> String {
         let object = Object::new()
             .text("part", self.part)

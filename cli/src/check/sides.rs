@@ -27,8 +27,6 @@ pub struct Side {
     pub missing: Tally<(u64, u64)>,
     pub differing: Tally<Difference>,
     pub out_of_step: Tally<Jump>,
-    /// Entries whose code is that of a tag which is not ASCII.
-    pub other_hash: u64,
     pub rest: Rest,
     /// What is wrong with its files where nothing else is.
     pub holes: Vec<String>,
@@ -57,8 +55,6 @@ pub struct Jump {
 pub struct Given<'a> {
     pub entry: QueueEntry,
     pub number: u64,
-    /// Whether its tag's code may be another one by Java's rule.
-    pub other_hash: bool,
     pub message: &'a Message<'a>,
     /// How many parts of the log have been passed over before it.
     pub passed: usize,
@@ -170,7 +166,6 @@ impl Side {
             missing: Tally::default(),
             differing: Tally::default(),
             out_of_step: Tally::default(),
-            other_hash: 0,
             rest: Rest::default(),
             holes: Vec::new(),
             compared: Vec::new(),
@@ -253,10 +248,9 @@ impl Side {
             return;
         };
         let same_record = (found.position, found.size) == (made.position, made.size);
-        if found == made || same_record && (self.is_delayed() || given.other_hash) {
+        if found == made || same_record && self.is_delayed() {
             self.same += 1;
             self.same_behind += u64::from(given.behind);
-            self.other_hash += u64::from(found != made && !self.is_delayed());
             return;
         }
         self.differing.add(Difference {

@@ -7,6 +7,7 @@ use crate::log::{Cause, Log, Skipped};
 use crate::queues::{MOST_ENTRIES, MOST_QUEUES};
 use crate::text::{counted, grouped};
 use crate::time;
+use swistopal::Answer;
 
 pub fn log(log: &Log, survey: &Survey, report: &mut Report) {
     let counts = &survey.before;
@@ -34,12 +35,14 @@ pub fn log(log: &Log, survey: &Survey, report: &mut Report) {
         report.add(span.number("last_time", last));
     }
     for skipped in survey.skipped.iter().filter(|skipped| skipped.is_damage()) {
-        report.add(
-            fault("log", "damage", stop(skipped, survey))
-                .number("position", skipped.from.0)
-                .number("goes_on", skipped.to.0)
-                .number("answer", answer(skipped)),
-        );
+        let finding = fault("log", "damage", stop(skipped, survey))
+            .number("position", skipped.from.0)
+            .number("goes_on", skipped.to.0)
+            .number("answer", answer(skipped));
+        report.add(match skipped.why {
+            Cause::Text(text) => finding.raw("no_utf8", text.object()),
+            _ => finding,
+        });
     }
     end(survey, report);
     for sentence in &log.faults {
@@ -51,13 +54,14 @@ pub fn log(log: &Log, survey: &Survey, report: &mut Report) {
 fn answer(skipped: &Skipped) -> u64 {
     match skipped.why {
         Cause::Answer(answer) => u64::from(answer.number()),
-        _ => u64::from(swistopal::Answer::Damaged.number()),
+        _ => u64::from(Answer::Damaged.number()),
     }
 }
 
 fn stop(skipped: &Skipped, survey: &Survey) -> String {
     let why = match skipped.why {
         Cause::Answer(answer) => format!("with {}: {answer}", answer.number()),
+        Cause::Text(text) => format!("with 10: {}; {}", Answer::Damaged, text.sentence()),
         Cause::Zeros => String::from("with 10: zeros stand there"),
         Cause::NoFile => String::from("as no file that can be read has what follows"),
         Cause::LongHosts(_) => String::from("at hosts of 20 bytes"),
@@ -191,19 +195,5 @@ pub fn items(given: u64, report: &mut Report) {
         let sentence = format!("{items} items; an index that this tool makes has {most_shown}");
         let found = limit("items", sentence).number("items", given);
         report.add(found.number("most", most));
-    }
-}
-
-/// Hashes that were not compared.
-pub fn other_hashes(entries: u64, items: u64, report: &mut Report) {
-    if entries + items > 0 {
-        let sentence = format!(
-            "{} and {} have other codes than this tool makes: their tags or keys are not ASCII, which Java hashes otherwise; \
-             their positions are compared",
-            counted(entries, "entry", "entries"),
-            counted(items, "item", "items")
-        );
-        let found = limit("hash", sentence).number("entries", entries);
-        report.add(found.number("items", items));
     }
 }

@@ -26,9 +26,6 @@ pub fn index(compared: &Compared, results: &Results, reach: &Reach, report: &mut
         }
         Found::Merged { merge, rest } => {
             merged(merge, rest, results, reach, report);
-            let items = merge.files.iter().map(|merged| merged.other_hash).sum();
-            let entries = compared.sides.list.iter().map(|side| side.other_hash);
-            tell::other_hashes(entries.sum(), items, report);
             tell::items(merge.given, report);
         }
     }

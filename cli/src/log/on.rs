@@ -1,19 +1,14 @@
 //! Reading on behind damage: from the next place where a sound record or blank stands. The archive's own reading decides; only
 //! where to ask it is found here, by the magic that every record and every blank has.
 
-use super::segments::{LOG_POSITION, MAGIC, MESSAGE};
+use super::frame::BadText;
+use super::segments::{MAGIC, MESSAGE};
 use super::{End, Log, Stretch, Why};
 use crate::failure::Failure;
 use crate::text::{counted, grouped};
 use swistopal::{Answer, Entry, LogPosition};
 
 const BLANK: [u8; 4] = [0xcb, 0xd4, 0x31, 0x94];
-/// A record's fields that are looked at where the archive reads none.
-const SYSTEM_FLAG: usize = 36;
-const BODY_LENGTH: usize = 84;
-/// System flag bits of a born host and of a store host of 20 bytes instead of 8.
-const LONG_HOSTS: u32 = 16 | 32;
-const MORE_FOR_A_LONG_HOST: usize = 12;
 
 /// What a reader meets that goes on behind damage.
 pub enum Met<'l> {
@@ -50,6 +45,8 @@ pub struct Skipped {
 pub enum Cause {
     /// What the archive answers at its first byte.
     Answer(Answer),
+    /// It answers 10 there, and the text of the record is all that is wrong.
+    Text(BadText),
     /// Zeros stand at its first byte, but something else again behind it.
     Zeros,
     /// No file that can be read has its first byte.
@@ -71,6 +68,7 @@ impl Skipped {
     pub fn sentence(&self) -> String {
         let why = match self.why {
             Cause::Answer(answer) => format!("answer {}: {answer}", answer.number()),
+            Cause::Text(text) => format!("answer 10: {}; {}", Answer::Damaged, text.sentence()),
             Cause::Zeros => String::from("zeros stand there, though the log goes on behind them"),
             Cause::NoFile => String::from("no file that can be read has them"),
             Cause::LongHosts(records) => format!(
@@ -188,7 +186,7 @@ impl Log {
         })?;
         let end = match self.entry(end.position) {
             _ if !damaged => end,
-            Err(answer) if behind_at_first => End::stopped(end.position, answer),
+            Err(answer) if behind_at_first => self.stop_at(end.position, answer),
             _ => self.walk(end.position, |_, _| Ok(true))?,
         };
         Ok((end, damaged))
@@ -231,11 +229,6 @@ impl Log {
         self.stretch_before(position).has(position)
     }
 
-    /// The length of a record with hosts of 20 bytes, which the archive does not read.
-    pub fn long_hosts(&self, position: LogPosition) -> Option<u64> {
-        self.stretch_before(position).long_hosts(position)
-    }
-
     /// Whether nothing follows a place that is not read but zeros, as far as its first bytes tell.
     pub fn ends_at(&self, position: LogPosition) -> bool {
         let last = &self.stretches[self.stretches.len() - 1];
@@ -274,7 +267,8 @@ impl Log {
         } else if zeros {
             Cause::Zeros
         } else {
-            Cause::Answer(answer)
+            let text = self.bad_text(from, answer);
+            text.map_or(Cause::Answer(answer), Cause::Text)
         };
         let to = self.next_sound(from);
         let to = to.unwrap_or_else(|| self.data_end(from));
@@ -352,27 +346,6 @@ impl Stretch {
             at += 1;
         }
         None
-    }
-
-    fn long_hosts(&self, position: LogPosition) -> Option<u64> {
-        let size = self.sizes.segment_size;
-        let rest = self.rest(position);
-        let segment = rest.len().min((size - position.0 % size) as usize);
-        let rest = &rest[..segment];
-        let word = |at: usize| Some(u32::from_be_bytes(*rest.get(at..)?.first_chunk()?));
-        let own = rest.get(LOG_POSITION..)?.first_chunk()?;
-        let hosts = (word(SYSTEM_FLAG)? & LONG_HOSTS).count_ones() as usize;
-        let more = hosts * MORE_FOR_A_LONG_HOST;
-        let topic = BODY_LENGTH + more + 4 + word(BODY_LENGTH + more)? as usize;
-        let properties = topic + 1 + usize::from(*rest.get(topic)?);
-        let length = u16::from_be_bytes(*rest.get(properties..)?.first_chunk()?);
-        let total = properties + 2 + usize::from(length);
-        let whole = hosts > 0
-            && word(MAGIC)?.to_be_bytes() == MESSAGE
-            && u64::from_be_bytes(*own) == position.0
-            && word(0)? as usize == total
-            && total <= rest.len();
-        whole.then_some(total as u64)
     }
 }
 

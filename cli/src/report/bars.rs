@@ -6,7 +6,7 @@ use super::svg::{About, Svg, WIDTH};
 const LINE: f64 = 20.0;
 const NAMES: f64 = 250.0;
 const NUMBERS: f64 = 120.0;
-/// The longest name, in characters.
+/// The longest name, in columns of a terminal.
 const LONGEST: usize = 38;
 
 pub struct Bar {
@@ -48,10 +48,8 @@ fn shortened(name: &str) -> String {
     parts.map(String::from_iter).join("…")
 }
 
-/// Characters that are not ASCII may be twice as wide as others.
 fn width(characters: &[char]) -> usize {
-    let ascii = characters.iter().filter(|character| character.is_ascii());
-    2 * characters.len() - ascii.count()
+    crate::text::width(&String::from_iter(characters))
 }
 
 #[cfg(test)]
@@ -67,5 +65,7 @@ mod tests {
         let wide = "東".repeat(42);
         let found: Vec<char> = shortened(&wide).chars().collect();
         assert!(width(&found) <= LONGEST + 1);
+        let accented = "Förderstraße_Überläufe_Süd_ÄÖÜ/3";
+        assert_eq!(shortened(accented), accented);
     }
 }

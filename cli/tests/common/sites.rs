@@ -241,7 +241,7 @@ pub fn foreign_files(store: &Path) -> Site {
     site
 }
 
-/// Keys and tags that are not ASCII, hashed as Java does; the parcels' own keys are ASCII.
+/// Keys and tags with accents and other signs, hashed as Java does.
 pub fn accents(store: &Path) -> Site {
     let mut shift = Shift::new(small(store));
     for _ in 0..10 {

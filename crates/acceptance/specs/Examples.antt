@@ -1,7 +1,6 @@
 -- Worked examples of readings on which careful readers differ (docs/DECISIONS.md), as data like the bench's. Assumes nothing.
 use Prim.Native.Nat.{ℕ, zero, suc, _+_}
-use mathlib.Core.Path.{_≡_}
-use mathlib.Core.List.{List, [], _∷_, _++_, map}
+use mathlib.Core.List.{List, [], _∷_, _++_}
 use lib.ListN.{length, replicate}
 use Rattle.codec.specs.Bytes.{little, bytesOf}
 use Rattle.java_hash.specs.Hash.{indexHash}
@@ -14,7 +13,7 @@ use Rattle.directory.specs.declared.RowCount.the-variants.{Refused, Rows}
 use Rattle.directory.specs.declared.Located.{Located}
 use Rattle.directory.specs.declared.Located.the-variants.{Unlisted, Row as RowNumber}
 use Rattle.directory.specs.Directory.{rowCount, rowOf}
-use Rattle.acceptance.specs.Bench.{Row, keys}
+use Rattle.acceptance.specs.Bench.{Row, Holds, keys}
 
 -- what is found: absent 0, one 1, more than one 2, then the place and the length
 abbrev pub shownFound : Found → List ℕ
@@ -107,4 +106,4 @@ unfoldable pub examples : List Row
 examples = property-examples ++ hash-examples ++ directory-examples
 
 abbrev pub ExamplesHold : Type 0
-ExamplesHold = map (λ (r : Row). r .given) examples ≡ map (λ (r : Row). r .wanted) examples
+ExamplesHold = Holds examples

@@ -1,14 +1,13 @@
 -- Worked examples of the shift report, as data like the bench's: document 02, item 1. Assumes nothing.
 use Prim.Native.Nat.{ℕ}
-use mathlib.Core.Path.{_≡_}
-use mathlib.Core.List.{List, [], _∷_, _++_, map}
+use mathlib.Core.List.{List, [], _∷_, _++_}
 use lib.ListN.{replicate}
 use Rattle.units.specs.declared.Answer.the-variants.{Done}
 use Rattle.units.specs.Answers.{numberOf}
 use Rattle.record_writer.specs.Encode.{partsOf}
 use Rattle.commit_log.specs.Log.{AppendOutcome, appendOutcome, appended}
 use Rattle.shift_report.specs.Report.{shiftReport}
-use Rattle.acceptance.specs.Bench.{Row, geometry, keys, uniqueKeyK, empty}
+use Rattle.acceptance.specs.Bench.{Row, Holds, geometry, keys, uniqueKeyK, empty}
 use Rattle.acceptance.specs.Examples.{directoryRow}
 
 -- the log and its readable end after a record of topic T with this queue id, system flag, body and properties
@@ -88,4 +87,4 @@ report-examples =
     ∷ []
 
 abbrev pub ReportsHold : Type 0
-ReportsHold = map (λ (r : Row). r .given) report-examples ≡ map (λ (r : Row). r .wanted) report-examples
+ReportsHold = Holds report-examples

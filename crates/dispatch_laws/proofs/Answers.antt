@@ -1,12 +1,12 @@
 -- No step is stopped with 9: a call that answers 9 has spent its budget. Assumes nothing.
-use Prim.Native.Nat.{ℕ, _+_}
+use Prim.Native.Nat.{ℕ}
 use mathlib.Core.Path.{_≡_, refl, subst}
 use mathlib.Core.Logic.{_⊎_, inl, inr}
 use mathlib.Core.Bool.{Bool, true, false, not, _&&_, _||_}
 use mathlib.Core.List.{List}
 use native.Mathlib.Omega.{arith}
-use lib.Dec.{ltb, leb, eqb}
-use lib.ListN.{length, getD, take}
+use lib.Dec.{leb, eqb}
+use lib.ListN.{length, getD}
 use Rattle.codec.proofs.Choices.{pick-either}
 use Rattle.units.specs.declared.LogPosition.{LogPosition}
 use Rattle.units.specs.declared.QueueOffset.{QueueOffset}

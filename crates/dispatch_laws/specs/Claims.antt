@@ -53,7 +53,7 @@ QueryAfterCalls =
     let ps = puts (d .fixed) (d .view) (stepsInAll dispatcher rs) s [] in
     Empty k n (s .index) → SecondsRise (items k ps)
     → (topic key : List ℕ) (first last wanted : ℕ) (out : List ℕ)
-    → queryOk (length topic) (length key) first last (wantedOf wanted) (length out) ≡ true
+    → queryOk topic key first last (wantedOf wanted) (length out) ≡ true
     → Finds (take (wantedOf wanted) (matches k ps (indexHash topic key) first last)) out (queried k n (final dispatcher rs s .index) topic key first last wanted out)
 
 -- the same of store times that never fall, from which recorded seconds never fall
@@ -66,5 +66,5 @@ QueryAfterRisingTimes =
     let ps = puts (d .fixed) (d .view) (stepsInAll dispatcher rs) s [] in
     Empty k n (s .index) → TimesRise ps
     → (topic key : List ℕ) (first last wanted : ℕ) (out : List ℕ)
-    → queryOk (length topic) (length key) first last (wantedOf wanted) (length out) ≡ true
+    → queryOk topic key first last (wantedOf wanted) (length out) ≡ true
     → Finds (take (wantedOf wanted) (matches k ps (indexHash topic key) first last)) out (queried k n (final dispatcher rs s .index) topic key first last wanted out)

@@ -7,7 +7,8 @@ use native.Mathlib.Omega.{arith}
 use lib.Dec.{eqb}
 use lib.ListN.{length}
 use Rattle.codec.specs.Choice.{pick}
-use Rattle.java_hash.specs.Hash.{hashFrom, units, hashOf, signed, carried, tagCode}
+use Rattle.utf8.specs.Utf8.{units, unitsFrom}
+use Rattle.java_hash.specs.Hash.{hashFrom, hashOf, signed, carried, tagCode}
 use Rattle.properties.specs.declared.Found.{Found}
 use Rattle.properties.specs.declared.Found.the-variants.{Absent, One, Many}
 use Rattle.properties.specs.declared.Scanned.{Scanned}
@@ -76,7 +77,7 @@ number-listed topic id d = go (rowOf topic id d) refl
 -- ---- the tag code
 
 pub tag-coded : (found : Found) (l value : List ℕ) {r : ℕ} → value ≡ foundBytes found l → r ≡ tagCode value → r ≡ tagOf found l
-unfolding foundBytes tagOf tagCode hashOf units hashFrom signed carried pick
+unfolding foundBytes tagOf tagCode hashOf units unitsFrom hashFrom signed carried pick
 tag-coded Absent l value e f = f ∙ rw e
 tag-coded (One p) l value e f = f ∙ rw e
 tag-coded (Many p) l value e f = f ∙ rw e

@@ -1,3 +1,4 @@
+pub mod Texts
 pub mod Duties
 pub mod Keys
 pub mod Among

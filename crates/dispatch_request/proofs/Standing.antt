@@ -1,36 +1,38 @@
 -- What stands at a position: how it is told, and what is known of it. Assumes nothing.
 use Prim.Native.Nat.{ℕ, _+_, _-_, _≤_, _<_}
 use mathlib.Core.Path.{_≡_, refl, sym, ap, subst, _∙_}
-use mathlib.Core.Bool.{Bool, true, false, not, _&&_}
+use mathlib.Core.Bool.{Bool, true, _&&_}
 use mathlib.Core.List.{List}
 use native.Mathlib.Omega.{arith}
 use lib.Dec.{eqb, leb, ltb}
 use lib.ListN.{length, take, drop, length-take, length-drop}
 use lib.Seq.{length-take-le}
-use borrow.Author.Tests.{eq-eqb, ne-eqb, eqb-false, le-leb, lt-leb, leb-true, not-true, not-false}
+use borrow.Author.Tests.{eq-eqb, ne-eqb, eqb-false, le-leb, lt-leb, leb-true}
 use Rattle.codec.specs.Bytes.{big, field, part}
 use Rattle.codec.specs.Choice.{pick}
 use Rattle.codec.specs.Lists.{All}
 use Rattle.codec.proofs.Choices.{both, passed}
 use Rattle.codec.proofs.Parts.{part-drop}
 use Rattle.units.specs.declared.Answer.{Answer}
-use Rattle.units.specs.declared.Answer.the-variants.{Done, Damaged}
+use Rattle.units.specs.declared.Answer.the-variants.{Done}
 use Rattle.units.specs.declared.LogPosition.{LogPosition}
 use Rattle.units.specs.declared.QueueOffset.{QueueOffset}
 use Rattle.properties.specs.declared.Found.{Found as Value}
+use Rattle.properties.specs.declared.Text.{Text}
 use Rattle.properties.specs.Finder.{tagsName, finder}
 use Rattle.directory.specs.Directory.{queues as listedQueues, rowOf}
 use Rattle.record.specs.declared.Fields.{Fields}
 use Rattle.record.specs.declared.Lengths.{Lengths}
 use Rattle.record.specs.declared.Record.{Record}
-use Rattle.record.specs.declared.Head.{Head}
-use Rattle.record.specs.declared.Head.the-variants.{Refuse, Pad, Frame}
+use Rattle.record.specs.declared.Judged.{Judged}
+use Rattle.record.specs.declared.Judged.the-variants as judged
 use Rattle.record.specs.declared.LogEntry.{LogEntry}
 use Rattle.record.specs.declared.LogEntry.the-variants.{Stop, Blank, Message}
-use Rattle.record.specs.Record.{shortHosts, storeTimeAt, topicAt, propertiesAt, totalOf, fieldsOf, messageOf, lengthsIn, recordIn, hostBitsClear, fieldsSound, topicIn, propertiesIn, isSound, isHere, headAt, headed, entryAt}
+use Rattle.record.specs.Record.{shortHosts, storeTimeAt, topicAt, propertiesAt, totalOf, fieldsOf, messageOf, lengthsIn, recordIn, hostBitsClear, fieldsSound, topicIn, propertiesIn, entryAt}
 use Rattle.record.specs.Reading.{Holds}
+use Rattle.record.specs.Judging.{judgedAt}
 use Rattle.record.proofs.Prefixes.{part-take}
-use Rattle.record.proofs.Entries.{framed-at, by-head, unsound, all-sound, own-holds}
+use Rattle.record.proofs.Judgements.{judged-stop, judged-blank, judged-sound}
 use Rattle.record.proofs.Soundness.{blank-padded, message-framed, message-sound}
 use Rattle.commit_log.specs.declared.Geometry.{Geometry}
 use Rattle.commit_log.specs.Log.{Rest, seen, entryWithin, placeBytes}
@@ -179,44 +181,41 @@ module _ (directory : List ℕ) (g : Geometry) (v : View) (p : LogPosition) (lis
     unfolding standsAt pick
     stands-as = rw (ne-eqb (p .0) (v .end .0) before, is)
 
--- the rest and the bytes that the code found before the readable end, and what their head says
-pub record Headed (g : Geometry) (v : View) (p : LogPosition) (r : ℕ) (s : List ℕ) (h : Head) : Type 0 where
+-- the rest and the bytes that the code found before the readable end, and how they were judged
+pub record Seen (g : Geometry) (v : View) (p : LogPosition) (r : ℕ) (s : List ℕ) (j : Judged) : Type 0 where
   pub before : p .0 ≡ v .end .0 → ⊥
   pub rest : Rest g p r
   pub bytes : s ≡ seen (v .log) g p (v .end)
-  pub head : h ≡ headAt r s
+  pub judged : j ≡ judgedAt p r s
 
-module _ (directory : List ℕ) (g : Geometry) (v : View) (p : LogPosition) (list : List ℕ) {r : ℕ} {s : List ℕ} {h : Head} (x : Headed g v p r s h) where
+module _ (directory : List ℕ) (g : Geometry) (v : View) (p : LogPosition) (list : List ℕ) {r : ℕ} {s : List ℕ} {j : Judged} (x : Seen g v p r s j) where
   stands : {y : LogEntry} → y ≡ entryAt p r s → standsAt directory g v p ≡ standsAs directory g v p y
   stands f = stands-as directory g v p list (f ∙ entry-seen (v .log) g p (v .end) r s (x .rest .is) (x .bytes)) (x .before)
 
-  pub read-refused : {a : Answer} → h ≡ Refuse a → Reads (standsAt directory g v p) (Stopped a) list
-  unfolding standsAs nextOf InFront headed
-  read-refused {a} f = rw (stands (by-head p r s (Refuse a) (x .head) f)) (record { next = refl; listed = tt })
+  pub read-refused : {a : Answer} → j ≡ judged.Stop a → Reads (standsAt directory g v p) (Stopped a) list
+  unfolding standsAs nextOf InFront
+  read-refused {a} f = rw (stands (judged-stop p r s (x .judged) f)) (record { next = refl; listed = tt })
 
-  pub read-padded : {n : ℕ} → h ≡ Pad n → Reads (standsAt directory g v p) (Passed n) list
-  unfolding standsAs nextOf InFront headed
-  read-padded {n} f = rw (stands (by-head p r s (Pad n) (x .head) f)) (record { next = refl; listed = tt })
+  pub read-padded : {n : ℕ} → j ≡ judged.Blank n → Reads (standsAt directory g v p) (Passed n) list
+  unfolding standsAs nextOf InFront
+  read-padded {n} f = rw (stands (judged-blank p r s (x .judged) f)) (record { next = refl; listed = tt })
 
-  module _ {n : ℕ} (f : h ≡ Frame n) {a b : Bool} (here : a ≡ isHere p (take n s)) (sound : b ≡ isSound (take n s)) where
-    pub read-damaged : not (a && b) ≡ true → Reads (standsAt directory g v p) (Stopped Damaged) list
-    unfolding standsAs nextOf InFront
-    read-damaged t = rw (stands (unsound p r s (x .head) f here sound (not-true (a && b) t))) (record { next = refl; listed = tt })
-
-    stands-made : Within g (length (v .log)) p (v .end) → not (a && b) ≡ false
+  module _ {n : ℕ} {t : Text} (f : j ≡ judged.Sound n t) where
+    stands-made : Within g (length (v .log)) p (v .end)
         → standsAt directory g v p ≡ madeOf directory (recordIn shortHosts p (take n s)) (topicOf (take n s)) (propertiesOf (take n s))
-    stands-made range t =
+    stands-made range =
         let bytes = x .bytes in
-        let below = framed-at r s n (sym (x .head) ∙ f) .below in
-        let held = own-holds p r s (x .head) f here sound (not-false (a && b) t) in
+        let w = judged-sound p r s (x .judged) f in
+        let below = w .below in
+        let held = w .holds in
         let below′ = rw bytes at below in
         let held′ = rw bytes at held in
-        stands (all-sound p r s (x .head) f here sound (not-false (a && b) t)) ∙ rw bytes (message-made directory g v p range n below′ held′)
+        stands (w .is) ∙ rw bytes (message-made directory g v p range n below′ held′)
 
-    pub read-record : {y : Next} → Within g (length (v .log)) p (v .end) → not (a && b) ≡ false
+    pub read-record : {y : Next} → Within g (length (v .log)) p (v .end)
         → Reads (madeOf directory (recordIn shortHosts p (take n s)) (topicOf (take n s)) (propertiesOf (take n s))) y list
         → Reads (standsAt directory g v p) y list
-    read-record range t m = rw (stands-made range t) m
+    read-record range m = rw (stands-made range) m
 
 -- ---- what is known of a record that stands at p
 

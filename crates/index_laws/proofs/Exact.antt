@@ -64,7 +64,7 @@ module _ (k n : ℕ) (l : List ℕ) (ps : List Put) (b : Built k n l ps) where
         (f .0, f .1 ∙ ap (λ (x : List Item). take wanted (map (λ (e : Item). e .position .0) x)) (keep-keep (hit criteria) (inSlot k (slotOf k hash)) (items k ps) (hit-slot k criteria)))
 
     -- on an index that was built nothing but the query itself can be refused
-    asked-list : (topic key : List ℕ) → hash ≡ indexHash topic key → (wanted : ℕ) (out : List ℕ) → queryOk (length topic) (length key) begin end (wantedOf wanted) (length out) ≡ true
+    asked-list : (topic key : List ℕ) → hash ≡ indexHash topic key → (wanted : ℕ) (out : List ℕ) → queryOk topic key begin end (wantedOf wanted) (length out) ≡ true
         → queried k n (build k l ps) topic key begin end wanted out ≡ reported (search k (build k l ps) (criteriaOf (build k l ps) hash begin end) (wantedOf wanted)) out
     unfolding queried queryWalk pick
     asked-list topic key e wanted out q =
@@ -92,7 +92,7 @@ chains-partition k n l ps b s h =
 pub reads-few : ReadsFew
 unfolding queried queryWalk reported pick
 reads-few k n l topic key first last wanted out =
-    go (not (sizesOk k n (length l))) (not (headerSound n l)) (not (queryOk (length topic) (length key) first last (wantedOf wanted) (length out)))
+    go (not (sizesOk k n (length l))) (not (headerSound n l)) (not (queryOk topic key first last (wantedOf wanted) (length out)))
   where
     go : (a b c : Bool) → pick a (ends BadSizes) (pick b (ends BadHeader) (pick c (ends Malformed) (search k l (criteriaOf l (indexHash topic key) first last) (wantedOf wanted)))) .read ≤ usedCount l - 1
     go true b c = omega arith
@@ -103,7 +103,7 @@ reads-few k n l topic key first last wanted out =
 pub query-refused : QueryRefused
 unfolding queried queryWalk reported pick
 query-refused k n l topic key first last wanted out h =
-    go (sizesOk k n (length l)) (headerSound n l) (queryOk (length topic) (length key) first last (wantedOf wanted) (length out)) h
+    go (sizesOk k n (length l)) (headerSound n l) (queryOk topic key first last (wantedOf wanted) (length out)) h
   where
     go : (a b c : Bool) → (a && b && c) ≡ false
         → Unchanged out (reported (pick (not a) (ends BadSizes) (pick (not b) (ends BadHeader) (pick (not c) (ends Malformed) (search k l (criteriaOf l (indexHash topic key) first last) (wantedOf wanted))))) out)

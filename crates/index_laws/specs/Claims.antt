@@ -26,7 +26,7 @@ abbrev pub QueryExact : Type 0
 QueryExact =
     (k n : ℕ) (index : List ℕ) (ps : List Put) → Built k n index ps → SecondsRise (items k ps)
     → (topic key : List ℕ) (first last wanted : ℕ) (out : List ℕ)
-    → queryOk (length topic) (length key) first last (wantedOf wanted) (length out) ≡ true
+    → queryOk topic key first last (wantedOf wanted) (length out) ≡ true
     → Finds (take (wantedOf wanted) (matches k ps (indexHash topic key) first last)) out (queried k n (build k index ps) topic key first last wanted out)
 
 -- store times that never fall make recorded seconds that never fall

@@ -30,7 +30,7 @@ pub record Unchanged (out : List ℕ) (r : QueryOutcome) : Type 0 where
 abbrev pub QueryRefused : Type 0
 QueryRefused =
     (k n : ℕ) (index topic key : List ℕ) (first last wanted : ℕ) (out : List ℕ)
-    → (sizesOk k n (length index) && headerSound n index && queryOk (length topic) (length key) first last (wantedOf wanted) (length out)) ≡ false
+    → (sizesOk k n (length index) && headerSound n index && queryOk topic key first last (wantedOf wanted) (length out)) ≡ false
     → Unchanged out (queried k n index topic key first last wanted out)
 
 -- "a value below 0 or not below the used count": a negative number, read without a sign, is not below any used count

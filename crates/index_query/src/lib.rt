@@ -1,13 +1,11 @@
 // The query of an index file by key and time: the walk along a slot's chain.
 ghost use mathlib.Core.Path.{_≡_};
 ghost use Prim.Native.Nat.{_+_, _<_, _≤_};
-ghost use mathlib.Core.Bool.{true};
 ghost use lib.ListN.{length};
-ghost use Rattle.java_hash.specs.Hash.{indexHash};
 ghost use Rattle.index_file.specs.Index.{usedCount, itemAt, itemOf};
 ghost use Rattle.index_query.specs.Walk.{criteriaOf, search};
-ghost use Rattle.index_query.specs.Query.{wantedOf, queryOk, reported, queried};
-ghost use Rattle.index_query.specs.Inner.{verdictOf};
+ghost use Rattle.index_query.specs.Query.{wantedOf, queryFits, reported, queried};
+ghost use Rattle.index_query.specs.Inner.{verdictOf, HashedIf};
 use index_file::IndexSizes;
 use index_file::Item;
 use units::Answer;
@@ -27,6 +25,12 @@ enum Verdict {
     Match,
     Early,
     Pass,
+}
+
+// Whether a query is well-formed, and its key's index hash.
+struct Hashed {
+    well: bool,
+    hash: u32,
 }
 
 // How a query ends: the positions written and the items read.
@@ -146,7 +150,7 @@ fn wanted_of(wanted: u64) -> u64
 }
 
 // Whether topic and key have a byte and are not too long, the times are in limits and ordered, and the output has the places.
-fn query_ok(
+fn query_fits(
     topic: usize,
     key: usize,
     first_time: u64,
@@ -154,21 +158,34 @@ fn query_ok(
     wanted: u64,
     places: usize,
 ) -> bool
-    ensures { λ r. ⌜ r ≡ queryOk topic key «first_time» «last_time» wanted places ⌝ }
+    ensures { λ r. ⌜ r ≡ queryFits topic key «first_time» «last_time» wanted places ⌝ }
 {
     let texts = ((1 <= topic) & (topic <= 127)) & ((1 <= key) & (key <= 32767));
     let times = (first_time <= last_time) & (last_time <= TIME_MAX);
     texts & times & (wanted <= places as u64)
 }
 
-// The index hash of a query's key, if the query is well-formed.
-fn hash_if(fits: bool, topic: &[u8], key: &[u8]) -> u32
-    ensures { λ r. ⌜ (fits ≡ true → r ≡ indexHash (now (topic .entry)) (now (key .entry))) ⌝ }
+// The index hash of a query's key, if the query is well-formed: topic and key are UTF-8, and the rest is as it should be.
+fn hash_if(fits: bool, topic: &[u8], key: &[u8]) -> Hashed
+    ensures { λ r. ⌜ HashedIf fits (now (topic .entry)) (now (key .entry)) r ⌝ }
 {
     if !fits {
-        return 0;
+        return Hashed {
+            well: false,
+            hash: 0,
+        };
     }
-    java_hash::index_hash(topic, key)
+    let plain = utf8::plain(topic) & utf8::plain(key);
+    if !plain {
+        if !(utf8::valid(topic) & utf8::valid(key)) {
+            return Hashed {
+                well: false,
+                hash: 0,
+            };
+        }
+    }
+    let hash = java_hash::index_hash(topic, key, plain);
+    Hashed { well: true, hash }
 }
 
 // The newest items with the key's hash and a recorded time in the range: their positions go to the output's front.
@@ -186,7 +203,7 @@ pub fn query(
     ensures { λ r. ⌜ record { made = r; out = now (out .exit) } ≡ queried (sizes .«slot_count») (sizes .«item_count») (now (index .entry)) (now (topic .entry)) (now (key .entry)) «first_time» «last_time» wanted (now (out .entry)) ⌝ }
 {
     let most = wanted_of(wanted);
-    let fits = query_ok(
+    let fits = query_fits(
         topic.len(),
         key.len(),
         first_time,
@@ -194,16 +211,16 @@ pub fn query(
         most,
         out.len(),
     );
-    let hash = hash_if(fits, topic, key);
+    let hashed = hash_if(fits, topic, key);
     if !index_file::sizes_ok(sizes, index.len()) {
         return ended(Answer::BadSizes, 0, 0);
     }
     if !index_file::header_sound(index, sizes.item_count) {
         return ended(Answer::BadHeader, 0, 0);
     }
-    if !fits {
+    if !hashed.well {
         return ended(Answer::Malformed, 0, 0);
     }
-    let criteria = criteria_for(index, hash, first_time, last_time);
+    let criteria = criteria_for(index, hashed.hash, first_time, last_time);
     walk_chain(index, sizes.slot_count, criteria, most as usize, out)
 }

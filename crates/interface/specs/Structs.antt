@@ -1,5 +1,5 @@
 -- Which number of a lent array is which: the structs of include/swistopal.h that a call takes, their members in their order; of `swistopal_fields`
--- `fieldsIn` (record_writer) says it. Of those that it only tells, `numbers` (record), `queryGives` (swistopal), `asNumbers` (shift_report) and
+-- `fieldsIn` (record_writer) says it. Of those that it only tells, `numbers` (record), `queryGives` (swistopal_index), `asNumbers` (shift_report) and
 -- `valuesOf` (swistopal_facts) say it. Assumes nothing.
 use Prim.Native.Nat.{ℕ, zero, suc}
 use mathlib.Core.List.{List, [], _∷_}

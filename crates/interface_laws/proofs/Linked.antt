@@ -1,5 +1,5 @@
 -- Lists of calls of `swistopal_dispatch` are lists of the definition's calls, so demand 3 and demand 2's query clause hold of them. Assumes nothing.
-use Prim.Native.Nat.{ℕ, _+_}
+use Prim.Native.Nat.{_+_}
 use mathlib.Core.Path.{_≡_, refl, _∙_, ap, subst}
 use mathlib.Core.List.{List, [], _∷_}
 use Rattle.units.specs.Answers.{numberOf}

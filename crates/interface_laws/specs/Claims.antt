@@ -42,5 +42,5 @@ LinkedQuery =
     let ps = puts (d .fixed) (d .view) (stepsReported rs) (stateIn l) [] in
     Empty k n (l .files) → SecondsRise (items k ps)
     → (topic key : List ℕ) (first last wanted : ℕ) (out : List ℕ)
-    → queryOk (length topic) (length key) first last (wantedOf wanted) (length out) ≡ true
+    → queryOk topic key first last (wantedOf wanted) (length out) ≡ true
     → Finds (take (wantedOf wanted) (matches k ps (indexHash topic key) first last)) out (queried k n (lastLeft rs l .files) topic key first last wanted out)

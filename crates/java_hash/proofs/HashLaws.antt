@@ -13,14 +13,11 @@ use borrow.Author.Tests.{lt-ltb, le-ltb, ne-eqb, ltb-true, ltb-false, eqb-false}
 use Rattle.codec.specs.Choice.{pick}
 use Rattle.codec.specs.Bytes.{part}
 use Rattle.codec.proofs.Parts.{length-part, part-add, part-cons, part-none}
-use Rattle.java_hash.specs.Hash.{units, hashFrom, plus, minus, signed, carried, absolute, topicHash, keyHash, indexHash, slotOf}
+use Rattle.utf8.specs.Utf8.{units}
+use Rattle.java_hash.specs.Hash.{hashFrom, hashOf, plus, minus, signed, carried, absolute, tagCode, topicHash, keyHash, indexHash, slotOf}
 use Rattle.java_hash.specs.Claims.{KeyHash, KeyHashSmall, IndexHashSmall, SlotWithin}
 
 -- ---- joined strings
-
-pub units-append : (a b : List ℕ) → units (a ++ b) ≡ units a ++ units b
-unfolding units
-units-append a b = refl
 
 pub hash-append : (h : ℕ) (a b : List ℕ) → hashFrom h (a ++ b) ≡ hashFrom (hashFrom h a) b
 unfolding hashFrom
@@ -28,12 +25,11 @@ hash-append h [] b = refl
 hash-append h (x ∷ a) b = hash-append ((31 * h + x) % 4294967296) a b
 
 -- a string's first bytes, then the others, lent as a part
-pub hash-parts : (start i h r : ℕ) (s : List ℕ) → h ≡ hashFrom start (units (take i s)) → r ≡ hashFrom h (units (take (length s - i) (drop i s))) → r ≡ hashFrom start (units s)
+pub hash-parts : (start i h r : ℕ) (s : List ℕ) → h ≡ hashFrom start (take i s) → r ≡ hashFrom h (take (length s - i) (drop i s)) → r ≡ hashFrom start s
 hash-parts start i h r s e f =
     let all : take (length s - i) (drop i s) ≡ drop i s = take-all (length s - i) (drop i s) (rw length-drop (omega arith)) in
-    let g : r ≡ hashFrom (hashFrom start (units (take i s))) (units (drop i s)) = rw (all, e) at f in
-    g ∙ sym (hash-append start (units (take i s)) (units (drop i s)))
-    ∙ ap (hashFrom start) (sym (units-append (take i s) (drop i s)) ∙ ap units (take-append-drop i s))
+    let g : r ≡ hashFrom (hashFrom start (take i s)) (drop i s) = rw (all, e) at f in
+    g ∙ sym (hash-append start (take i s) (drop i s)) ∙ ap (hashFrom start) (take-append-drop i s)
 
 -- topic and `#` first, then the key
 pub key-hash : KeyHash
@@ -45,6 +41,15 @@ key-hash topic key =
 pub topic-step : (h r : ℕ) (topic : List ℕ) → h ≡ hashFrom 0 (units topic) → r ≡ hashFrom h (35 ∷ []) → r ≡ topicHash topic
 unfolding topicHash
 topic-step h r topic e f = f ∙ rw e (sym (hash-append 0 (units topic) (35 ∷ [])))
+
+-- the hash of the key's units, from its topic's hash; and of the tags'
+pub key-step : (prefix h r : ℕ) (key : List ℕ) → h ≡ hashFrom prefix (units key) → r ≡ absolute (signed h) → r ≡ keyHash prefix key
+unfolding keyHash
+key-step prefix h r key e f = f ∙ rw e
+
+pub tag-step : (h r : ℕ) (tags : List ℕ) → h ≡ hashFrom 0 (units tags) → r ≡ carried (signed h) → r ≡ tagCode tags
+unfolding tagCode hashOf
+tag-step h r tags e f = f ∙ rw e
 
 -- ---- several bytes in one turn
 
@@ -98,20 +103,19 @@ unfolding hashFrom
 single s i k e l = rw (part-cons 0 i s k, part-none (i + 1) s) (omega arith)
 
 module _ (start : ℕ) (s : List ℕ) where
-  -- the turns of the loops
-  pub turn1 : (i h u r : ℕ) → i < length s → h ≡ hashFrom start (units (take i s)) → u ≡ getD s i 0 → r ≡ hashFrom h (u ∷ []) → r ≡ hashFrom start (units (take (i + 1) s))
-  unfolding units
+  -- the turns of the loops over bytes
+  pub turn1 : (i h u r : ℕ) → i < length s → h ≡ hashFrom start (take i s) → u ≡ getD s i 0 → r ≡ hashFrom h (u ∷ []) → r ≡ hashFrom start (take (i + 1) s)
   turn1 i h u r k e f g = g ∙ rw (e, f, add-one, take-suc s i 0 k) (sym (hash-append start (take i s) (getD s i 0 ∷ [])))
 
-  pub turn8 : (i h r : ℕ) → h ≡ hashFrom start (units (take i s)) → r ≡ hashFrom h (part 8 i s) → r ≡ hashFrom start (units (take (i + 8) s))
-  unfolding units part
+  pub turn8 : (i h r : ℕ) → h ≡ hashFrom start (take i s) → r ≡ hashFrom h (part 8 i s) → r ≡ hashFrom start (take (i + 8) s)
+  unfolding part
   turn8 i h r e g = g ∙ rw (e, take-add i 8 s) (sym (hash-append start (take i s) (take 8 (drop i s))))
 
-  pub turn0 : start ≡ hashFrom start (units (take 0 s))
-  unfolding hashFrom units
+  pub turn0 : start ≡ hashFrom start (take 0 s)
+  unfolding hashFrom
   turn0 = refl
 
-  pub turned : (i h : ℕ) → length s ≤ i → h ≡ hashFrom start (units (take i s)) → h ≡ hashFrom start (units s)
+  pub turned : (i h : ℕ) → length s ≤ i → h ≡ hashFrom start (take i s) → h ≡ hashFrom start s
   turned i h k e = e ∙ rw (take-all i s k)
 
 -- ---- the signed number

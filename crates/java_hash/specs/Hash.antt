@@ -3,10 +3,9 @@ use Prim.Native.Nat.{ℕ, _+_, _*_, _-_, _%_}
 use mathlib.Core.List.{List, [], _∷_, _++_}
 use lib.Dec.{ltb, eqb}
 use Rattle.codec.specs.Choice.{pick}
+use Rattle.utf8.specs.Utf8.{units}
 
--- "for each byte, taken as 0 to 255": what a string of bytes is hashed by
-unfoldable pub units : List ℕ → List ℕ
-units bytes = bytes
+-- document 02, item 2: "RocketMQ hashes Java strings, so 16-bit units"; "the hash now runs over the UTF-16 units" (`units` of utf8)
 
 -- "h becomes 31 times h plus the next byte, modulo 4,294,967,296": h continued over the units
 unfoldable pub hashFrom : ℕ → List ℕ → ℕ

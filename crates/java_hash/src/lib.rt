@@ -2,11 +2,13 @@
 mod mul31;
 
 ghost use mathlib.Core.Path.{_≡_};
+ghost use mathlib.Core.Bool.{true};
 ghost use mathlib.Core.List.{[], _∷_};
 ghost use Prim.Native.Nat.{_+_, _*_, _%_, _^_, _≤_, _<_};
 ghost use lib.ListN.{length};
 ghost use Rattle.codec.specs.Bytes.{part};
-ghost use Rattle.java_hash.specs.Hash.{units, hashFrom, signed, carried, absolute, tagCode, topicHash, keyHash, indexHash, slotOf};
+ghost use Rattle.utf8.specs.Utf8.{units, unitsOf, valid, Known};
+ghost use Rattle.java_hash.specs.Hash.{hashFrom, signed, carried, absolute, tagCode, topicHash, keyHash, indexHash, slotOf};
 
 // A byte as a unit: 0 to 255, never negative.
 fn unit(x: u8) -> u32
@@ -71,9 +73,20 @@ fn step8(h: u32, s: &[u8], i: usize) -> u32
     std::num::wrapping_add_u32(mul31_8(h), octet(s, i))
 }
 
-// The hash h, continued over the bytes one by one.
+// The units of a character more.
+fn step_code(h: u32, code: u32) -> u32
+    ensures { λ r. ⌜ r ≡ hashFrom h (unitsOf code) ⌝ }
+{
+    if code < 65536 {
+        return step(h, code);
+    }
+    let above = code - 65536;
+    step(step(h, 55296 + above / 1024), 56320 + above % 1024)
+}
+
+// The hash h, continued over bytes as units, one by one.
 fn hash_rest(start: u32, s: &[u8]) -> u32
-    ensures { λ r. ⌜ r ≡ hashFrom start (units (now (s .entry))) ⌝ }
+    ensures { λ r. ⌜ r ≡ hashFrom start (now (s .entry)) ⌝ }
 {
     let mut h = start;
     let mut i: usize = 0;
@@ -84,9 +97,9 @@ fn hash_rest(start: u32, s: &[u8]) -> u32
     h
 }
 
-// The hash h, continued over the bytes: eight a turn, then the rest.
-pub fn hash_from(start: u32, s: &[u8]) -> u32
-    ensures { λ r. ⌜ r ≡ hashFrom start (units (now (s .entry))) ⌝ }
+// The hash h, continued over bytes as units: eight a turn, then the rest.
+fn hash_bytes(start: u32, s: &[u8]) -> u32
+    ensures { λ r. ⌜ r ≡ hashFrom start (now (s .entry)) ⌝ }
 {
     let mut h = start;
     let mut i: usize = 0;
@@ -95,6 +108,38 @@ pub fn hash_from(start: u32, s: &[u8]) -> u32
         i += 8;
     }
     hash_rest(h, &s[i..])
+}
+
+// The hash h, continued over the units of a text, character by character.
+fn hash_chars(start: u32, s: &[u8]) -> u32
+    requires { ⌜ valid (now s) ≡ true ⌝ }
+    ensures { λ r. ⌜ r ≡ hashFrom start (units (now (s .entry))) ⌝ }
+{
+    let mut h = start;
+    let mut i: usize = 0;
+    while i < s.len() {
+        let c = utf8::decode_valid(s, i);
+        h = step_code(h, c.code);
+        i += c.size;
+    }
+    h
+}
+
+// The same of any bytes: up to the first place where no character stands.
+fn hash_any(start: u32, s: &[u8]) -> u32
+    ensures { λ r. ⌜ r ≡ hashFrom start (units (now (s .entry))) ⌝ }
+{
+    let mut h = start;
+    let mut i: usize = 0;
+    while i < s.len() {
+        let found = utf8::decode(s, i);
+        if found.size == 0 {
+            return h;
+        }
+        h = step_code(h, found.code);
+        i += found.size;
+    }
+    h
 }
 
 // The signed number, carried into 64 bits.
@@ -121,31 +166,54 @@ fn magnitude(h: u32) -> u32
     (4294967296 - (h as u64)) as u32
 }
 
+// Of a text that was judged it may be known that each byte is below 128: then the bytes are the units. The three functions that follow each ask this by themselves, so
+// that the compiler takes the hash of bytes into their callers' loops and leaves that of characters outside.
+
 // The tag code, as 64 bits.
-pub fn tag_code(tags: &[u8]) -> u64
+pub fn tag_code(tags: &[u8], plain: bool) -> u64
+    requires { ⌜ Known plain (now tags) ⌝ }
     ensures { λ r. ⌜ r ≡ tagCode (now (tags .entry)) ⌝ }
 {
-    carry(hash_from(0, tags))
+    if plain {
+        return carry(hash_bytes(0, tags));
+    }
+    carry(hash_chars(0, tags))
+}
+
+// The tag code of any bytes.
+pub fn any_tag_code(tags: &[u8]) -> u64
+    ensures { λ r. ⌜ r ≡ tagCode (now (tags .entry)) ⌝ }
+{
+    carry(hash_any(0, tags))
 }
 
 // The hash of topic and `#`, from which the hash of each key goes on.
-pub fn topic_hash(topic: &[u8]) -> u32
+pub fn topic_hash(topic: &[u8], plain: bool) -> u32
+    requires { ⌜ Known plain (now topic) ⌝ }
     ensures { λ r. ⌜ r ≡ topicHash (now (topic .entry)) ⌝ }
 {
-    step(hash_from(0, topic), 35)
+    if plain {
+        return step(hash_bytes(0, topic), 35);
+    }
+    step(hash_chars(0, topic), 35)
 }
 
 // The index hash of a key, from its topic's hash.
-pub fn key_hash(prefix: u32, key: &[u8]) -> u32
+pub fn key_hash(prefix: u32, key: &[u8], plain: bool) -> u32
+    requires { ⌜ Known plain (now key) ⌝ }
     ensures { λ r. ⌜ r ≡ keyHash prefix (now (key .entry)) ⌝ }
 {
-    magnitude(hash_from(prefix, key))
+    if plain {
+        return magnitude(hash_bytes(prefix, key));
+    }
+    magnitude(hash_chars(prefix, key))
 }
 
-pub fn index_hash(topic: &[u8], key: &[u8]) -> u32
+pub fn index_hash(topic: &[u8], key: &[u8], plain: bool) -> u32
+    requires { ⌜ Known plain (now topic) × Known plain (now key) ⌝ }
     ensures { λ r. ⌜ r ≡ indexHash (now (topic .entry)) (now (key .entry)) ⌝ }
 {
-    key_hash(topic_hash(topic), key)
+    key_hash(topic_hash(topic, plain), key, plain)
 }
 
 // The slot of an index hash, of so many slots.

@@ -19,7 +19,7 @@ use units::Place;
 pub extern "C" fn swistopal_tag_code(tag: &[u8]) -> u64
     ensures { λ r. ⌜ r ≡ tagCode (now (tag .entry)) ⌝ }
 {
-    java_hash::tag_code(tag)
+    java_hash::any_tag_code(tag)
 }
 
 fn bit(b: bool) -> u32
@@ -39,7 +39,9 @@ pub extern "C" fn swistopal_makes_entry(system_flag: u64) -> u32
 pub extern "C" fn swistopal_item_count(system_flag: u64, properties: &[u8]) -> u64
     ensures { λ r. ⌜ r ≡ length (recordKeys (makesItems (transaction «system_flag»)) (now (properties .entry))) ⌝ }
 {
-    dispatch_request::item_count(system_flag, properties) as u64
+    let text = properties::scan(properties);
+    let found = text.values;
+    dispatch_request::item_count(system_flag, properties, found) as u64
 }
 
 #[no_mangle]
@@ -69,7 +71,8 @@ fn place_of(found: Found) -> Place
 pub extern "C" fn swistopal_find_values(properties: &[u8], values: &mut [u64; 6])
     ensures { λ _. ⌜ now (values .exit) ≡ valuesOf (scanned (now (properties .entry))) ⌝ }
 {
-    let found = properties::scan(properties);
+    let text = properties::scan(properties);
+    let found = text.values;
     let found_tags = found.tags;
     let found_keys = found.keys;
     let found_unique_key = found.unique_key;

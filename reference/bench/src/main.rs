@@ -1,7 +1,7 @@
 //! Times the archive behind the C interface against fast plain Rust that does the same with the same checks. The sides
 //! run in turn on the same buffers; answers, numbers and bytes are compared before a job is timed.
 
-// The lister and the small functions are not timed.
+// The lister and most of the small functions are not timed.
 #[allow(dead_code)]
 #[path = "../../../bindings/rust/src/archive.rs"]
 mod archive;

@@ -3,6 +3,7 @@
 
 use crate::archive::{self, Fields, Figures, Found, Place, Progress, Record, Sizes};
 use crate::plain;
+use crate::plain::text::{OnePass, Standard};
 
 pub type Append = unsafe extern "C" fn(
     *mut u8,
@@ -85,6 +86,8 @@ pub type Report = unsafe extern "C" fn(
     *mut Figures,
 ) -> u32;
 
+pub type TagCode = unsafe extern "C" fn(*const u8, usize) -> u64;
+
 /// One side.
 pub struct Store {
     append: Append,
@@ -93,6 +96,7 @@ pub struct Store {
     read_queue: ReadQueue,
     query: Query,
     report: Report,
+    tag_code: TagCode,
 }
 
 pub const ARCHIVE: Store = Store {
@@ -102,20 +106,27 @@ pub const ARCHIVE: Store = Store {
     read_queue: archive::swistopal_read_queue,
     query: archive::swistopal_query,
     report: archive::swistopal_report,
+    tag_code: archive::swistopal_tag_code,
 };
 
 pub const PLAIN: Store = Store {
-    append: plain::append::append,
-    read_record: plain::record::read_record,
-    dispatch: plain::dispatch::dispatch,
+    append: plain::append::append::<Standard>,
+    read_record: plain::record::read_record::<Standard>,
+    dispatch: plain::dispatch::dispatch::<Standard>,
     read_queue: plain::queue::read_queue,
-    query: plain::index::query,
-    report: plain::report::report,
+    query: plain::index::query::<Standard>,
+    report: plain::report::report::<Standard>,
+    tag_code: plain::hash::tag_code_of::<Standard>,
 };
 
-/// Plain Rust whose dispatch reads ahead.
-pub const AHEAD: Store = Store {
+/// Plain Rust that goes further: its dispatch reads ahead, and text that is not ASCII is judged and hashed in one pass.
+pub const FURTHER: Store = Store {
+    append: plain::append::append::<OnePass>,
+    read_record: plain::record::read_record::<OnePass>,
     dispatch: plain::ahead::dispatch,
+    query: plain::index::query::<OnePass>,
+    report: plain::report::report::<OnePass>,
+    tag_code: plain::hash::tag_code_of::<OnePass>,
     ..PLAIN
 };
 
@@ -344,6 +355,11 @@ impl Store {
             )
         };
         (answer, found)
+    }
+
+    #[inline(always)]
+    pub fn tag_code(&self, tag: &[u8]) -> u64 {
+        unsafe { (self.tag_code)(tag.as_ptr(), tag.len()) }
     }
 
     /// The answer and the figures of a log from its start on.

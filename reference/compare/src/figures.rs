@@ -60,7 +60,7 @@ pub struct Stretch<'a> {
 /// What the archive reports of a stretch.
 #[derive(Clone, Copy)]
 pub struct Reported {
-    answer: u32,
+    pub answer: u32,
     figures: [u64; 27],
 }
 

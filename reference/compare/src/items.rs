@@ -8,6 +8,7 @@ use crate::messages::{odd_properties, properties, KEYS, TAGS, TOPICS};
 use crate::operations::Bench;
 use crate::random::Random;
 use crate::store::wide_properties;
+use crate::texts::mostly_text;
 
 /// A system flag of each transaction type, with any other bits.
 fn system_flag(random: &Random) -> u64 {
@@ -153,7 +154,7 @@ fn asked_key(random: &Random, properties: &[u8], values: &Values) -> Vec<u8> {
 }
 
 fn tags(bench: &mut Bench, random: &Random) -> Check<()> {
-    let tag = match random.below(5) {
+    let tag = match random.below(7) {
         0 => random.pick(&TAGS).to_vec(),
         1 => random.pick(&KEYS).to_vec(),
         2 => {
@@ -161,7 +162,11 @@ fn tags(bench: &mut Bench, random: &Random) -> Check<()> {
             random.bytes(length)
         }
         3 => vec![random.pick(&[0, 1, 0x7F, 0x80, 0xFF]); random.below(40) as usize],
-        _ if random.one_in(30) => random.bytes(70_000),
+        4 | 5 => {
+            let length = random.below(70);
+            mostly_text(random, length)
+        }
+        _ if random.one_in(30) => mostly_text(random, 70_000),
         _ => Vec::new(),
     };
     bench.tag_code(&tag)?;

@@ -5,6 +5,7 @@
 #[allow(dead_code)]
 #[path = "../../../bindings/rust/src/archive.rs"]
 mod archive;
+mod every_text;
 mod figures;
 mod functions;
 mod items;
@@ -18,6 +19,8 @@ mod reports;
 mod requests;
 mod scenarios;
 mod store;
+mod texts;
+mod trials;
 mod variation;
 
 use std::process::ExitCode;
@@ -30,7 +33,8 @@ use operations::{Bench, Counts, Operation};
 use random::Random;
 use requests::{Fault, SITES};
 
-const USAGE: &str = "usage: compare [--seed N] [--count N] [--only SCENARIO]";
+const USAGE: &str = "usage: compare [--seed N] [--count N] [--only SCENARIO]
+       compare --texts";
 
 /// Time between progress lines.
 const PROGRESS_EVERY: Duration = Duration::from_secs(10);
@@ -39,6 +43,8 @@ struct Arguments {
     seed: u64,
     count: u64,
     only: Option<u64>,
+    /// Every short text instead of scenarios.
+    texts: bool,
 }
 
 fn arguments() -> Option<Arguments> {
@@ -46,9 +52,14 @@ fn arguments() -> Option<Arguments> {
         seed: 1,
         count: 20_000,
         only: None,
+        texts: false,
     };
     let mut given = std::env::args().skip(1);
     while let Some(name) = given.next() {
+        if name == "--texts" {
+            arguments.texts = true;
+            continue;
+        }
         let number = given.next()?.parse().ok()?;
         match name.as_str() {
             "--seed" => arguments.seed = number,
@@ -65,6 +76,9 @@ fn main() -> ExitCode {
         eprintln!("{USAGE}");
         return ExitCode::from(2);
     };
+    if arguments.texts {
+        return every_text::run();
+    }
     println!("seed {}", arguments.seed);
     if let Some(scenario) = arguments.only {
         return run_only(arguments.seed, scenario);
@@ -210,7 +224,8 @@ fn say_difference(seed: u64, scenario: u64, difference: &Difference) {
 }
 
 /// Counts by operation and outcome. Fails where an operation did not come to an outcome that it can give, a fault of a
-/// request was not tried alone at some place, or no neighbouring stretches came to a stop that a report can have.
+/// request was not tried alone at some place, no neighbouring stretches came to a stop that a report can have, or a kind of
+/// text was not tried at some place.
 fn report(counts: &Counts, count: u64, time: Duration) -> ExitCode {
     let mut missed = Vec::new();
     for operation in Operation::ALL {
@@ -226,7 +241,7 @@ fn report(counts: &Counts, count: u64, time: Duration) -> ExitCode {
         println!("{line}");
     }
     println!(
-        "requests that no record can keep: {} faults, each alone at {} places, {} times and more",
+        "requests with a fault: {} faults, each alone at {} places, {} times and more",
         Fault::ALL.len(),
         SITES.len(),
         counts.requests.least()
@@ -246,6 +261,8 @@ fn report(counts: &Counts, count: u64, time: Duration) -> ExitCode {
     );
     println!("{}", counts.neighbours.said());
     missed.extend(counts.neighbours.missed());
+    println!("{}", counts.trials.said());
+    missed.extend(counts.trials.missed());
     let rate = count as f64 / time.as_secs_f64().max(0.001);
     println!("{count} scenarios, 0 differences, {rate:.0} a second");
     if missed.is_empty() {

@@ -3,16 +3,25 @@
 use model::record::Message;
 
 use crate::random::Random;
+use crate::texts::{faulty_text, text};
 
 /// 2^48 − 1, the largest time.
 pub const LARGEST_TIME: u64 = (1 << 48) - 1;
 
 /// Few topics, so that they repeat. `T#a` with key `b` hashes as `T` with key `a#b`.
-pub const TOPICS: [&[u8]; 6] = [b"T", b"TT", b"T#a", b"\xE9\xFF", b"SORTER_EVENTS", b"t"];
+pub const TOPICS: [&[u8]; 7] = [
+    b"T",
+    b"TT",
+    b"T#a",
+    "\u{e9}\u{ff}".as_bytes(),
+    b"SORTER_EVENTS",
+    b"t",
+    "SORTIERER-S\u{fc}d-\u{1f4e6}".as_bytes(),
+];
 
 /// Few keys, so that they repeat and share slots. With topic `T`, `1LG3HE3` hashes to −2^31, `cdkiej` and `cdkhll` share
-/// an index hash; bytes above 127 show a sign carried along.
-pub const KEYS: [&[u8]; 16] = [
+/// an index hash, and so do `Aa`, `BB` and `@` with U+0080; units from 8000 hex on show a sign carried along.
+pub const KEYS: [&[u8]; 21] = [
     b"a",
     b"b",
     b"c",
@@ -23,21 +32,27 @@ pub const KEYS: [&[u8]; 16] = [
     b"1LG3HE3",
     b"cdkiej",
     b"cdkhll",
-    b"\xC3\xA9",
-    b"\xFF\xFE\xFD\xFC\xFB",
+    "\u{e9}".as_bytes(),
+    "\u{ffff}\u{fffe}\u{8000}\u{d7ff}\u{e000}".as_bytes(),
     b"parcel-000017",
     b"chute-128",
-    b"\x80",
+    "\u{80}".as_bytes(),
     b"zzzzzzzz",
+    "@\u{80}".as_bytes(),
+    "M\u{fc}ller-7".as_bytes(),
+    "\u{feff}k".as_bytes(),
+    "\u{1f600}".as_bytes(),
+    "\u{10000}\u{10ffff}\u{7ff}\u{800}".as_bytes(),
 ];
 
 /// `polygenelubricants` hashes to −2^31.
-pub const TAGS: [&[u8]; 8] = [
+pub const TAGS: [&[u8]; 9] = [
     b"Aa",
     b"BB",
     b"polygenelubricants",
-    b"\xC3\xA9",
-    b"\xFF\xFF\xFF\xFF\xFF\xFF",
+    "\u{e9}".as_bytes(),
+    "\u{ffff}\u{ffff}\u{ffff}\u{ffff}\u{ffff}\u{ffff}".as_bytes(),
+    "\u{1f4e6}".as_bytes(),
     b"divert",
     b"cage-drop",
     b"a b",
@@ -158,7 +173,7 @@ fn keys_value(random: &Random) -> Vec<u8> {
 
 /// A piece of properties that is no pair, or a pair whose name only looks like one that matters.
 fn odd_piece(random: &Random) -> Vec<u8> {
-    const ODD: [&[u8]; 20] = [
+    const ODD: [&[u8]; 24] = [
         b"",
         b"KEYS",
         b"KEYS\x01",
@@ -179,6 +194,10 @@ fn odd_piece(random: &Random) -> Vec<u8> {
         b"TAGSX\x01Aa",
         b"UNIQ_KEYS\x01k",
         b"UNIQ_KE\x01k",
+        b"KEYS\x01\xFF\x01",
+        b"TAGS\xC3",
+        b"\xEF\xBB\xBFKEYS\x01\xFF",
+        b"\x01\xED\xA0\x80",
     ];
     random.pick(&ODD).to_vec()
 }
@@ -199,8 +218,25 @@ pub fn properties(random: &Random) -> Vec<u8> {
             ]
             .concat(),
             9..=10 => odd_piece(random),
+            // A value that no rule judges.
+            _ if random.one_in(3) => {
+                let length = random.below(20);
+                [b"WAIT\x01".to_vec(), faulty_text(random, length)].concat()
+            }
             _ => b"WAIT\x01true".to_vec(),
         });
+    }
+    if random.one_in(40) {
+        // The first pair of a name, whatever follows.
+        let name = random.pick(&[&b"KEYS\x01"[..], b"TAGS\x01", b"UNIQ_KEY\x01"]);
+        let length = random.below(20);
+        pieces.insert(0, [name, &faulty_text(random, length)].concat());
+    }
+    if random.one_in(12) {
+        // Text that nobody has sent before.
+        let name = random.pick(&[&b"KEYS\x01"[..], b"TAGS\x01", b"UNIQ_KEY\x01", b"X\x01"]);
+        let length = random.between(1, 60);
+        pieces.push([name, &text(random, length)].concat());
     }
     let mut properties = pieces.join(&2);
     if random.one_in(2) {

@@ -12,6 +12,7 @@ use crate::judge::{shown, Check, Judge, ARCHIVE_AND_MODEL};
 use crate::lent::{Lent, Twin};
 use crate::random::Random;
 use crate::requests::RequestCounts;
+use crate::trials::TrialCounts;
 
 /// The operations, and the small functions that tell what a record makes.
 #[derive(Clone, Copy, Debug, PartialEq, Eq)]
@@ -107,13 +108,14 @@ impl Operation {
 }
 
 /// How often an operation gave an outcome, how often requests were refused for one fault, how many lists of dispatch calls
-/// were tried, and how many neighbouring stretches were added up.
+/// were tried, how many neighbouring stretches were added up, and how often each kind of text was tried.
 #[derive(Clone, Default)]
 pub struct Counts {
     pub outcomes: [[u64; 18]; Operation::ALL.len()],
     pub requests: RequestCounts,
     pub lists: ListCounts,
     pub neighbours: NeighbourCounts,
+    pub trials: TrialCounts,
 }
 
 /// Lists of dispatch calls, by what demand 3 says about them.
@@ -139,6 +141,7 @@ impl Counts {
         }
         self.requests.add(&other.requests);
         self.neighbours.add(&other.neighbours);
+        self.trials.add(&other.trials);
         let lists = &mut self.lists;
         lists.one_call += other.lists.one_call;
         lists.steps_only += other.lists.steps_only;

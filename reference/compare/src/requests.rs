@@ -1,20 +1,21 @@
-//! Append requests that no record can keep: each fault alone, in a request that is good without it, at every kind of
-//! place. The header has them as 5, after 1 and 2 and before 6 and 7.
+//! Append requests that no record can keep, and those with bytes that are not UTF-8 for a text: each fault alone, in a
+//! request that is good without it, at every kind of place. The header has them as 5, after 1 and 2 and before 6 and 7.
 
 use model::interface::Sizes;
 
 use crate::judge::Check;
 use crate::lent::Twin;
-use crate::messages::Draft;
+use crate::messages::{Draft, TOPICS};
 use crate::operations::{Bench, Operation};
 use crate::random::Random;
 use crate::store::{Plan, Store};
+use crate::texts::faulty_text;
 use crate::variation::Variation;
 
 /// 2^32: the least number that 4 bytes do not keep.
 const ABOVE_4_BYTES: u64 = 1 << 32;
 
-/// A fault: what is wrong, and of which number or host.
+/// A fault: what is wrong, and of which number, host or text.
 #[derive(Clone, Copy)]
 pub struct Fault {
     kind: Kind,
@@ -28,6 +29,7 @@ enum Kind {
     Empty,
     Short,
     Long,
+    Text,
 }
 
 const NUMBERS: [&str; 5] = [
@@ -38,21 +40,23 @@ const NUMBERS: [&str; 5] = [
     "reconsume_times",
 ];
 const HOSTS: [&str; 2] = ["born_host", "store_host"];
+const TEXTS: [&str; 4] = ["topic", "TAGS", "KEYS", "UNIQ_KEY"];
 
 impl Fault {
-    pub const ALL: [Fault; 16] = {
+    pub const ALL: [Fault; 20] = {
         let mut all = [Fault {
             kind: Kind::JustAbove,
             part: 0,
-        }; 16];
+        }; 20];
         let mut i = 0;
-        while i < 16 {
+        while i < 20 {
             let (kind, part) = match i {
                 0..5 => (Kind::JustAbove, i),
                 5..10 => (Kind::Huge, i - 5),
                 10..12 => (Kind::Empty, i - 10),
                 12..14 => (Kind::Short, i - 12),
-                _ => (Kind::Long, i - 14),
+                14..16 => (Kind::Long, i - 14),
+                _ => (Kind::Text, i - 16),
             };
             all[i] = Fault { kind, part };
             i += 1;
@@ -67,6 +71,7 @@ impl Fault {
             Kind::Empty => format!("{} of no bytes", HOSTS[self.part]),
             Kind::Short => format!("{} of less than 8 bytes", HOSTS[self.part]),
             Kind::Long => format!("{} of more than 8 bytes", HOSTS[self.part]),
+            Kind::Text => format!("{} that is not UTF-8", TEXTS[self.part]),
         }
     }
 
@@ -92,6 +97,14 @@ impl Fault {
                 let length = random.pick(&[9, 9, 10, 16, 20, 256, 264, 65_536 + 8]);
                 let more = random.bytes(length - 8);
                 self.host(draft).extend(more);
+            }
+            Kind::Text => {
+                let bytes = faulty_text(random, random.pick(&[1, 2, 9, 40, 120]));
+                if self.part == 0 {
+                    draft.topic = bytes;
+                } else {
+                    draft.properties = [TEXTS[self.part].as_bytes(), b"\x01", &bytes].concat();
+                }
             }
         }
     }
@@ -299,11 +312,11 @@ fn hosts_together(bench: &mut Bench, random: &Random, store: &mut Store) -> Chec
 
 /// A request that a record can keep, at the edges of what it can.
 fn good_draft(random: &Random, store: &Store) -> Draft {
-    let (topic, queue_id) = random.pick(&store.rows);
+    let (_, queue_id) = random.pick(&store.rows);
     let mut draft = Draft {
         queue_id: random.pick(&[u64::from(queue_id), 0, (1 << 31) - 1]),
         system_flag: random.pick(&[0, 4, 8, 12, 0xFFFF_FFCF, 0x8000_0000]),
-        ..Draft::least(&topic)
+        ..Draft::least(random.pick(&TOPICS))
     };
     draft.scatter(random);
     let body_length = random.below(50);

@@ -7,12 +7,14 @@ use crate::items::{made_by_record, made_by_records};
 use crate::judge::Check;
 use crate::lent::Twin;
 use crate::lists::run_list;
-use crate::messages::{Draft, KEYS, LARGEST_TIME, TOPICS};
+use crate::messages::{properties, Draft, KEYS, LARGEST_TIME, TOPICS};
 use crate::operations::{Bench, DispatchCall, Operation, Question, QueueReading};
 use crate::random::Random;
 use crate::reports::reports;
 use crate::requests::{requests, Fault};
 use crate::store::{row, Plan, Store, BLANK_MAGIC, LARGEST_POSITION};
+use crate::texts::{faulty_text, mostly_text};
+use crate::trials::trials;
 use crate::variation::Variation;
 
 /// Scenarios with buffers at the limits of the sizes come at fixed numbers: they take long.
@@ -35,7 +37,8 @@ pub fn run(bench: &mut Bench, seed: u64, number: u64) -> Check<()> {
         35..=41 => reports(bench, random),
         42..=48 => edges(bench, random),
         49..=62 => worn_index(bench, random),
-        63..=79 => doors(bench, random),
+        63..=75 => doors(bench, random),
+        76..=79 => trials(bench, random),
         80..=84 => directories(bench, random),
         85..=91 => listings(bench, random),
         92..=94 => requests(bench, random),
@@ -326,9 +329,14 @@ fn query(bench: &mut Bench, random: &Random, store: &Store) -> Check<()> {
     };
     let mut places = places as usize;
     if random.one_in(12) {
-        match random.below(8) {
-            0 => topic = random.bytes(random.pick(&[0, 127, 128, 129, 255, 256])),
-            1 => key = random.bytes(random.pick(&[0, 0, 1, 255, 256, 32_767, 32_768, 65_536])),
+        match random.below(10) {
+            0 => topic = mostly_text(random, random.pick(&[0, 127, 128, 129, 255, 256])),
+            1 => {
+                let length = random.pick(&[0, 0, 1, 255, 256, 32_767, 32_768, 65_536]);
+                key = mostly_text(random, length);
+            }
+            8 => topic = faulty_text(random, random.pick(&[1, 2, 20, 127])),
+            9 => key = faulty_text(random, random.pick(&[1, 2, 20, 300, 32_767])),
             2 => first_time = random.pick(&[LARGEST_TIME, 1 << 48, 1 << 63, u64::MAX]),
             3 => last_time = random.pick(&[LARGEST_TIME, 1 << 48, 1 << 63, u64::MAX]),
             4 => (first_time, last_time) = (last_time, first_time),
@@ -621,8 +629,8 @@ fn query_doors(bench: &mut Bench, random: &Random, store: &Store) -> Check<()> {
     bench.query(&Question {
         index: &index,
         sizes: other.sizes,
-        topic: &random.bytes(topic_length),
-        key: &random.bytes(key_length),
+        topic: &mostly_text(random, topic_length),
+        key: &mostly_text(random, key_length),
         first_time: random.pick(&[0, times[0], times[1]]),
         last_time: random.pick(&[times[0], times[1], times[1]]),
         wanted: random.pick(&[0, 1, 2, times[0]]),
@@ -668,9 +676,11 @@ fn log_doors(bench: &mut Bench, random: &Random, store: &Store) -> Check<()> {
     bench.read_record(&other.log, &other.sizes, position, readable_end)?;
     let mut draft = Draft::least(b"T");
     draft.scatter(random);
-    match random.below(13) {
+    match random.below(15) {
         0 => draft.topic.clear(),
         1 => draft.topic = vec![b't'; random.pick(&[127, 128, 129, 255, 256])],
+        13 => draft.topic = mostly_text(random, random.pick(&[1, 2, 30, 126, 127])),
+        14 => draft.properties = properties(random),
         2 => draft.store_time = random.absurd(),
         3 => draft.queue_id = random.absurd(),
         4 => draft.system_flag = random.absurd(),

@@ -9,6 +9,7 @@ use crate::messages::{odd_properties, properties, store_time, Draft, LARGEST_TIM
 use crate::operations::{Bench, DispatchCall, State};
 use crate::random::Random;
 use crate::requests::Fault;
+use crate::texts::{character, faulty_text, text};
 
 pub const MESSAGE_MAGIC: [u8; 4] = [0xDA, 0xA3, 0x20, 0xA7];
 pub const BLANK_MAGIC: [u8; 4] = [0xCB, 0xD4, 0x31, 0x94];
@@ -78,7 +79,11 @@ pub fn random_rows(random: &Random, number: u64) -> Vec<(Vec<u8>, u32)> {
     while (rows.len() as u64) < number {
         let mut topic = random.pick(&TOPICS).to_vec();
         if random.one_in(30) {
-            topic = random.bytes(random.pick(&[1, 2, 126, 127]));
+            topic = text(random, random.pick(&[1, 2, 126, 127]));
+        }
+        if random.one_in(60) {
+            // A directory's topic is not judged; no record has this one.
+            topic = faulty_text(random, random.pick(&[1, 2, 20, 120]));
         }
         let queue_id = random.pick(&[0, 0, 1, 2, 3, 255, 256, 0x0102_0304, 0x7FFF_FFFF]);
         if !rows.contains(&(topic.clone(), queue_id)) {
@@ -264,9 +269,18 @@ impl Store {
         if !random.one_in(12) {
             return;
         }
-        match random.below(12) {
+        match random.below(14) {
             0 => {
-                draft.topic = random.bytes(random.pick(&[0, 0, 126, 127, 128, 129, 255, 256, 257]))
+                draft.topic = text(
+                    random,
+                    random.pick(&[0, 0, 126, 127, 128, 129, 255, 256, 257]),
+                )
+            }
+            12 => draft.topic = faulty_text(random, random.pick(&[1, 5, 40, 120])),
+            13 => {
+                let name = random.pick(&[&b"KEYS\x01"[..], b"TAGS\x01", b"UNIQ_KEY\x01", b"X\x01"]);
+                let value = faulty_text(random, random.pick(&[1, 5, 40, 120]));
+                draft.properties = [name, &value].concat();
             }
             1 => draft.queue_id ^= 1 << random.below(32),
             2 => draft.system_flag |= random.pick(&[16, 32, 48]),
@@ -428,7 +442,7 @@ impl Store {
         let total = int(self, 0);
         let body_length = int(self, 84);
         let topic_place = at + 88 + (body_length as usize).min(1 << 30);
-        match random.below(15) {
+        match random.below(20) {
             0 => {
                 let value = random.pick(&[
                     0,
@@ -536,6 +550,20 @@ impl Store {
                 // A blank in place of what stood here.
                 self.log.set(at, &(r as u32).to_be_bytes());
                 self.log.set(at + 4, &BLANK_MAGIC);
+            }
+            12..=16 => {
+                // Other bytes over some of its topic and properties: text, or not even that.
+                let (first, end) = (topic_place + 1, at + (total as u64).min(r) as usize);
+                if first < end {
+                    let place = first + random.below((end - first) as u64) as usize;
+                    let mut bytes = match random.below(3) {
+                        0 => vec![0x80 | random.next() as u8],
+                        1 => character(random).to_string().into_bytes(),
+                        _ => faulty_text(random, 0),
+                    };
+                    bytes.truncate(end - place);
+                    self.log.set(place, &bytes);
+                }
             }
             _ => {
                 let length = (total as u64).clamp(8, r);
@@ -723,10 +751,24 @@ pub fn wide_properties(random: &Random) -> Vec<u8> {
     let mut properties = random
         .pick(&[&b"KEYS\x01"[..], b"UNIQ_KEY\x01", b"TAGS\x01", b"X\x01"])
         .to_vec();
-    let filler = random.pick(&[&b"a "[..], b"parcel-17 ", b"x", b"\xFF", b"a\x02KEYS\x01"]);
-    while (properties.len() as u64) < length {
+    let filler = random.pick(&[
+        &b"a "[..],
+        b"parcel-17 ",
+        b"x",
+        "\u{e9}".as_bytes(),
+        "\u{20ac} ".as_bytes(),
+        "\u{1f600}".as_bytes(),
+        b"\xFF",
+        b"a\x02KEYS\x01",
+    ]);
+    while (properties.len() + filler.len()) as u64 <= length {
         properties.extend(filler);
     }
-    properties.truncate(length as usize);
+    properties.resize(length as usize, b'z');
+    if random.one_in(5) {
+        // One byte that is no text, first, last or between.
+        let place = random.pick(&[9, length - 1, length - 9, random.below(length)]);
+        properties[place as usize] = random.pick(&[0x80, 0xC3, 0xE2, 0xF0, 0xFF]);
+    }
     properties
 }

@@ -1,13 +1,14 @@
-//! Document 01, "Properties and hashes": the hashes.
+//! Document 01, "Properties and hashes": the hashes, over the units of document 02, item 2.
 
 use crate::number::Whole;
+use crate::utf8;
 
 /// "Hash: start at 0; for each byte, taken as 0 to 255, h becomes 31 times h plus the next byte, modulo 4,294,967,296,
-/// read as signed 32-bit at the end."
-pub fn hash(bytes: &[u8]) -> Whole {
+/// read as signed 32-bit at the end." Document 02, item 2: "the hash now runs over the UTF-16 units."
+pub fn hash(text: &[u8]) -> Whole {
     let mut h: Whole = 0;
-    for byte in bytes {
-        h = (31 * h + Whole::from(*byte)) % 4_294_967_296;
+    for unit in utf8::units(text) {
+        h = (31 * h + unit) % 4_294_967_296;
     }
     if h < 2_147_483_648 {
         h

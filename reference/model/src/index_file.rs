@@ -5,6 +5,7 @@ use crate::hash::index_hash;
 use crate::number::{int_at, int_bytes, length, long_at, long_bytes, write, LogPosition, Whole};
 use crate::record::Record;
 use crate::sizes::{time_ok, IndexShape, LARGEST_POSITION, LONGEST_PROPERTIES, LONGEST_TOPIC};
+use crate::utf8;
 
 /// "Header: first time 0, last time 8, first position 16, last position 24, filled slots 32, used count 36."
 mod place {
@@ -263,6 +264,9 @@ fn judge_query(
     // "Query: topic and key non-empty and within 127 and 32,767 bytes;"
     let topic_ok = (1..=LONGEST_TOPIC).contains(&length(question.topic));
     let key_ok = (1..=LONGEST_PROPERTIES).contains(&length(question.key));
+    // Document 02, item 2: "Bytes that are not such UTF-8 [...] make [...] a query or append holding them 17 or 5." Topic
+    // and key are two texts, each judged by itself.
+    let text_ok = utf8::valid(question.topic) && utf8::valid(question.key);
     // "first and last time in limits and ordered;"
     let first = Whole::from(question.first_time);
     let last = Whole::from(question.last_time);
@@ -270,7 +274,7 @@ fn judge_query(
     // "number wanted, 0 meaning 32, not above the output's places."
     let wanted_ok = Whole::from(number_wanted(question.wanted)) <= places as Whole;
     // "Else 17."
-    if topic_ok && key_ok && times_ok && wanted_ok {
+    if topic_ok && key_ok && text_ok && times_ok && wanted_ok {
         Ok(())
     } else {
         Err(Answer::Malformed)

@@ -494,7 +494,8 @@ pub fn report(
 
 // "None of these has an answer: the number returned is the thing itself, 1 and 0 are yes and no."
 
-/// "A tag's code, as a queue entry holds it."
+/// "A tag's code, as a queue entry holds it." Of bytes that are not UTF-8, which no tag of a sound record is, the code of
+/// the characters before the first place where none stands ([`crate::utf8::units`]).
 pub fn tag_code(tag: &[u8]) -> u64 {
     // Signed numbers are passed as their bit patterns.
     hash::tag_code(tag) as i64 as u64

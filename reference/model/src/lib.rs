@@ -18,6 +18,7 @@
 //! | Request of document 02 | Module |
 //! |---|---|
 //! | Item 1, a shift report | [`report`] |
+//! | Item 2, keys from the accented sites | [`utf8`]; the hash's units in [`hash`], soundness in [`record`], 17 in [`index_file`] |
 //!
 //! [`interface`] has the same operations, and six small functions that tell what a record makes, with the names, order
 //! and structs of the C interface (include/swistopal.h).
@@ -44,6 +45,8 @@ pub mod index_file;
 pub mod lister;
 
 pub mod report;
+
+pub mod utf8;
 
 pub mod interface;
 

@@ -10,14 +10,14 @@ use model::record::Message;
 #[test]
 fn p_hashes() {
     // "bytes of `Aa` and `BB` both hash to 2112; `ab` to 3105; `T#k` to 81916; nothing to 0."
-    // "C3 A9 hashes to 6214." "`polygenelubricants` hashes to −2,147,483,648".
+    // Document 02, item 2: "C3 A9 now gives 233, not 6214." "`polygenelubricants` hashes to −2,147,483,648".
     for (bytes, expected) in [
         (&b"Aa"[..], 2_112),
         (b"BB", 2_112),
         (b"ab", 3_105),
         (b"T#k", 81_916),
         (b"", 0),
-        (&[0xC3, 0xA9], 6_214),
+        (&[0xC3, 0xA9], 233),
         (b"polygenelubricants", -2_147_483_648),
     ] {
         assert_eq!(hash(bytes), expected);
@@ -132,8 +132,9 @@ fn run_only_rows() {
 
 #[test]
 fn slips_to_shut_out() {
-    // "Widening a byte with its sign (E9 is 233, never −23)."
-    assert_eq!(hash(&[0xE9]), 233);
+    // "Widening a byte with its sign (E9 is 233, never −23)." As a unit, and a unit of 16 bits likewise.
+    assert_eq!(hash("\u{e9}".as_bytes()), 0xE9);
+    assert_eq!(hash("\u{ffe9}".as_bytes()), 0xFFE9);
     // "Absolute value of the least number left negative. Tag code filled with zeros on the left.": p_the_least_number.
     // "Item place one too low.": p_the_first_item.
     // "Queue entry written before the index is found full."

@@ -13,12 +13,15 @@ const GOOD: Plan = Plan {
     rising: false,
 };
 
-/// The hash by its other definition: the sum of byte × 31^(bytes after it), modulo 2^32, signed at the end.
+/// The hash by its other definition: the sum of unit × 31^(units after it), modulo 2^32, signed at the end. The units are
+/// those of Rust's library.
 fn plain_hash(bytes: &[u8]) -> i64 {
+    let text = std::str::from_utf8(bytes).unwrap();
+    let units: Vec<u16> = text.encode_utf16().collect();
     let mut sum: u64 = 0;
     let mut power: u64 = 1;
-    for byte in bytes.iter().rev() {
-        sum = (sum + u64::from(*byte) * power) % 4_294_967_296;
+    for unit in units.iter().rev() {
+        sum = (sum + u64::from(*unit) * power) % 4_294_967_296;
         power = power * 31 % 4_294_967_296;
     }
     i64::from(sum as u32 as i32)
@@ -252,8 +255,8 @@ fn a97_to_a99_a_query_on_an_index_built_from_empty() {
             falling += 1;
             return;
         }
-        for _ in 0..12 {
-            let topic = rng.pick(&[&b"T"[..], b"T", b"TT", b"\xFFU"]);
+        for _ in 0..16 {
+            let topic = rng.pick(&["T", "T", "TT", "\u{ff}U"]).as_bytes();
             let key = rng.pick(&common::random::KEYS).as_bytes();
             let spread = rng.pick(&[0, 999, 1_000, 30_000, 90_000]);
             let first = (first_time + rng.below(60_000))

@@ -66,7 +66,7 @@ fn every_list_of_calls_is_one_run() {
     let mut compared: BTreeMap<u32, u64> = BTreeMap::new();
     let mut lists_without_an_accepted_call = 0;
     let mut steps_in_all = 0;
-    for_seeds(4_000, |_, rng| {
+    for_seeds(4_400, |_, rng| {
         let troubled = rng.one_in(2);
         let plan = Plan {
             troubled,

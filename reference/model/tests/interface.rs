@@ -395,16 +395,30 @@ fn a_tags_code() {
         (b"Aa", 2_112),
         (b"BB", 2_112),
         (b"ab", 3_105),
-        (b"\xE9", 233),
-        (b"\xC3\xA9", 6_214),
+        (b"\xC3\xA9", 233),
+        (b"\xF0\x9F\x98\x80", 1_772_899),
         (b"polygenelubricants", 0xFFFF_FFFF_8000_0000),
+    ] {
+        assert_eq!(interface::tag_code(tag), expected);
+    }
+    // Of bytes that are not UTF-8 the code of the characters before the first place where none stands.
+    for (tag, expected) in [
+        (&b"\xE9"[..], 0),
+        (b"ab\xC3", 3_105),
+        (b"ab\xC3(", 3_105),
+        (b"ab\x80ab", 3_105),
+        (b"\xC3\xA9\xED\xA0\x80", 233),
+        (b"\xC3\xA9\xF0\x9F\x98", 233),
+        (b"\xF4\x90\x80\x80ab", 0),
     ] {
         assert_eq!(interface::tag_code(tag), expected);
     }
     // It is what a queue entry holds of a record with that tag.
     for_seeds(300, |_, rng| {
         let length = rng.between(1, 40);
-        let mut tag = rng.bytes(length);
+        let mut tag = String::from_utf8_lossy(&rng.bytes(length))
+            .into_owned()
+            .into_bytes();
         tag.retain(|byte| *byte > 2);
         if tag.is_empty() {
             return;

@@ -66,15 +66,15 @@ fn a35_duplicates_anywhere() {
 
 #[test]
 fn a36_topics_are_raw_bytes_and_ids_cross_the_byte_orders() {
-    let topic = [0x00, 0xFF, 0x80];
-    let mut store = Store::with(1, row(&topic, 0x0102_0304), 4, 2, 4);
+    let topic = "\0\u{ff}\u{1f600}".as_bytes();
+    let mut store = Store::with(1, row(topic, 0x0102_0304), 4, 2, 4);
     store.add(&Message {
-        topic: &topic,
+        topic,
         queue_id: 0x0102_0304,
         ..rec()
     });
     store.add(&Message {
-        topic: &topic,
+        topic,
         queue_id: 0x0403_0201,
         ..rec()
     });

@@ -79,10 +79,12 @@ fn a59_the_least_number_has_index_hash_0() {
 }
 
 #[test]
-fn a59_bytes_are_0_to_255() {
-    assert_eq!(hash(&[0xE9]), 233);
-    assert_eq!(hash(&[0xC3, 0xA9]), 6_214);
-    assert_eq!(hash(&[0xFF]), 255);
+fn a59_units_are_0_to_65535() {
+    assert_eq!(hash("\u{7f}".as_bytes()), 127);
+    assert_eq!(hash("\u{80}".as_bytes()), 128);
+    assert_eq!(hash("\u{ff}".as_bytes()), 255);
+    assert_eq!(hash("\u{8000}".as_bytes()), 32_768);
+    assert_eq!(hash("\u{ffff}".as_bytes()), 65_535);
     assert_eq!(hash(b"Aa"), hash(b"BB"));
     for (key, expected) in [("a", 81_906), ("b", 81_907), ("c", 81_908), ("k", 81_916)] {
         assert_eq!(index_hash(b"T", key.as_bytes()), expected);

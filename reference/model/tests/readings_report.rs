@@ -608,11 +608,13 @@ fn b1_7_a_directory_row_whose_topic_is_not_ascii() {
         let (answer, figures) = whole_report(&store);
         assert_eq!((answer, figures.unlisted), (0, 0));
         assert_eq!(figures.rows[..3], [0, 1, 0]);
-        // Until item 2 a record of such a topic is sound, and listed there (A36).
-        store.add(&Message { topic, ..rec() });
-        let (answer, figures) = whole_report(&store);
-        assert_eq!((answer, figures.unlisted), (0, 0));
-        assert_eq!(figures.rows[..3], [1, 1, 0]);
+        // A record of such a topic is not sound (item 2): the report stops there, and the row keeps its 0.
+        let place = store.readable_end as usize;
+        let damaged = raw(&Message { topic, ..rec() }, store.readable_end);
+        patch(&mut store.log, place, &damaged);
+        store.readable_end += damaged.len() as u64;
+        let (answer, stopped) = whole_report(&store);
+        assert_eq!((answer, stopped), (10, figures));
     }
     // UTF-8: records of that topic are counted there, byte for byte.
     let mut store = Store::with(1, [row("é".as_bytes(), 0), d1()].concat(), 4, 2, 4);

@@ -9,26 +9,26 @@ use Rattle.dispatch_request.proofs.item_count.Tie as tie
 abbrev counted : tie.After-value2 → tie.After-key-count
 counted c = c .before
 
-abbrev scanned : tie.After-key-count → tie.After-scan
-scanned c = c .before .before
+abbrev made : tie.After-key-count → tie.Else1
+made c = c .before .before
 
-abbrev tested : tie.After-scan → tie.After-makes-items
-tested c = c .before .before
+abbrev start : tie.Else1 → tie.Start
+start c = c .before .before .before
 
 returns : tie.Need-returns
 returns c = none-counted _ _ (c .before .makes-items .ensures) (c .if1 .taken)
 
 value-requires : tie.Need-value-requires
-value-requires c κs = keys-inside _ (c .scan .ensures)
+value-requires c κs = keys-inside _ (start c .pre)
 
 value-requires-2 : tie.Need-value-requires-2
-value-requires-2 c κs = unique-key-inside _ (scanned c .scan .ensures)
+value-requires-2 c κs = unique-key-inside _ (start (made c) .pre)
 
 returns-2 : tie.Need-returns-2
 returns-2 c =
     let n = counted (c .before) in
-    let s = scanned n in
-    others-counted _ _ (tested s .makes-items .ensures) (s .before .if1 .left) _ (s .scan .ensures) (c .before .value2 .ensures) (n .before .value .ensures) (n .key-count .ensures) (c .if2 .taken)
+    let s = made n in
+    others-counted _ _ (s .before .makes-items .ensures) (s .if1 .left) _ (start s .pre) (c .before .value2 .ensures) (n .before .value .ensures) (n .key-count .ensures) (c .if2 .taken)
 
 add-result : tie.Need-add-result
 add-result c = omega (arith, counted (c .before) .key-count .ensures, keys-few (counted (c .before) .before .value .result .now))
@@ -36,8 +36,8 @@ add-result c = omega (arith, counted (c .before) .key-count .ensures, keys-few (
 returns-3 : tie.Need-returns-3
 returns-3 c =
     let n = counted (c .before) in
-    let s = scanned n in
-    all-counted _ _ (tested s .makes-items .ensures) (s .before .if1 .left) _ (s .scan .ensures) (c .before .value2 .ensures) (n .before .value .ensures) (n .key-count .ensures) (c .if2 .left)
+    let s = made n in
+    all-counted _ _ (s .before .makes-items .ensures) (s .if1 .left) _ (start s .pre) (c .before .value2 .ensures) (n .before .value .ensures) (n .key-count .ensures) (c .if2 .left)
 
 pub item-count-spec : {M : Type 1} → statement M
 item-count-spec =
@@ -45,7 +45,6 @@ item-count-spec =
     (tie.spec
     (search needs)
     returns
-    (search needs)
     value-requires
     (search needs)
     value-requires-2

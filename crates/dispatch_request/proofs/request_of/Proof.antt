@@ -1,7 +1,12 @@
 -- `dispatch_request::request_of` meets its contract: each number is read at its place, topic and properties are lent. Assumes nothing.
 use native.Mathlib.Omega.{arith}
+use Prim.Native.Nat.{_+_, _-_}
+use lib.ListN.{take, drop}
+use Rattle.record.specs.Record.{topicAt, propertiesAt}
 use Rattle.record.specs.Reading.{Holds}
+use Rattle.record.specs.Judging.{TextKnown}
 use Rattle.dispatch_request.proofs.Duties.{tags-found}
+use Rattle.dispatch_request.proofs.Texts.{text-values, tags-known, text-lent}
 use Rattle.dispatch_request.proofs.Standing.{lengths-held, topic-lent, properties-lent, own-long, own-read}
 use borrow.Author.Needs.{needs}
 use Rattle.dispatch_request.proofs.request_of.Statement.{statement}
@@ -16,13 +21,13 @@ abbrev measured : tie.After-get-u32 → tie.After-struct-known
 measured c = c .before .before .before
 
 abbrev flagged : tie.After-makes-items → tie.After-get-u32
-flagged c = c .before .before
+flagged c = c .before
 
 abbrev made : tie.After-slice-known2 → tie.After-makes-items
 made c = c .before .before .before .before
 
 abbrev fitted : tie.After-makes-entry → tie.Else1
-fitted c = c .before .before .before .before
+fitted c = c .before .before .before .before .before
 
 abbrev lengths : tie.After-makes-entry → tie.After-struct-known
 lengths c = measured (flagged (made (fitted c .before)))
@@ -30,6 +35,10 @@ lengths c = measured (flagged (made (fitted c .before)))
 -- the bytes that the lengths name are there
 held : (c : tie.After-struct-known) → Holds (start c .args .own .now) (c .before .lengths-in .result)
 held c = lengths-held _ (c .before .lengths-in .ensures) (start c .pre .0)
+
+-- its text is known, as it is lent
+known : (c : tie.After-struct-known) → let k = c .before .lengths-in .result in TextKnown (take (topicAt (k .hosts) (k .body) + k .topic - topicAt (k .hosts) (k .body)) (drop (topicAt (k .hosts) (k .body)) (start c .args .own .now))) (take (propertiesAt (k .hosts) (k .body) (k .topic) + k .properties - propertiesAt (k .hosts) (k .body) (k .topic)) (drop (propertiesAt (k .hosts) (k .body) (k .topic)) (start c .args .own .now))) (start c .args .text)
+known c = let k = c .before .lengths-in .ensures in text-lent (topic-lent _ k) (properties-lent _ k) (start c .pre .1)
 
 -- ---- needs
 
@@ -64,7 +73,7 @@ part-properties-end : tie.Need-part-properties-end
 part-properties-end c = omega (arith, held (c .before))
 
 gather-requires : tie.Need-gather-requires
-gather-requires c κs = (c .before .before .scan .ensures, start (measured (flagged (c .before))) .pre .2)
+gather-requires c κs = let m = measured (flagged (c .before)) in (known m, start m .pre .3)
 
 returns : tie.Need-returns
 returns c =
@@ -74,10 +83,10 @@ returns c =
     own-long _ _ _ _ (topic-lent _ k) (properties-lent _ k) (f .get-u32 .ensures) (m .makes-items .ensures) (c .before .before .before .gather .ensures) (c .if1 .taken)
 
 tag-of-requires : tie.Need-tag-of-requires
-tag-of-requires c κs = tags-found _ (made (c .before) .before .scan .ensures)
+tag-of-requires c κs = let k = known (measured (flagged (made (c .before .before)))) in (tags-found _ (text-values k), tags-known k)
 
 row-number-requires : tie.Need-row-number-requires
-row-number-requires c κs = start (measured (flagged (made (c .before .before .before)))) .pre .1
+row-number-requires c κs = start (measured (flagged (made (c .before .before .before .before)))) .pre .2
 
 get-u64-requires : tie.Need-get-u64-requires
 get-u64-requires c κs = omega (arith, held (lengths c))
@@ -97,7 +106,7 @@ returns-2 c =
     let m = made (e .before) in
     let f = flagged m in
     let k = lengths n .before .lengths-in .ensures in
-    own-read _ _ _ _ (topic-lent _ k) (properties-lent _ k) (f .get-u32 .ensures) (m .makes-items .ensures) (e .before .before .before .gather .ensures) (e .if1 .left) k (i .get-u322 .ensures) (c .before .get-u64 .ensures) (c .get-u642 .ensures) (n .makes-entry .ensures) (r .row-number .ensures) (tags-found _ (m .before .scan .ensures)) (i .before .tag-of .ensures)
+    own-read _ _ _ _ (topic-lent _ k) (properties-lent _ k) (f .get-u32 .ensures) (m .makes-items .ensures) (e .before .before .before .gather .ensures) (e .if1 .left) k (i .get-u322 .ensures) (c .before .get-u64 .ensures) (c .get-u642 .ensures) (n .makes-entry .ensures) (r .row-number .ensures) (tags-found _ (text-values (known (lengths n)))) (i .before .tag-of .ensures)
 
 pub request-of-spec : {M : Type 1} → statement M
 request-of-spec =
@@ -118,7 +127,6 @@ request-of-spec =
     (search needs)
     (search needs)
     part-properties-end
-    (search needs)
     (search needs)
     (search needs)
     (search needs)

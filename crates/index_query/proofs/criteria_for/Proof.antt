@@ -1,4 +1,4 @@
--- `index_file::criteria_for` meets its contract. Assumes nothing.
+-- `index_query::criteria_for` meets its contract. Assumes nothing.
 use Rattle.index_query.specs.Walk.{criteriaOf}
 use borrow.Author.Needs.{needs}
 use Rattle.index_query.proofs.criteria_for.Statement.{statement}

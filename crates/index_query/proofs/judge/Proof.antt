@@ -1,4 +1,4 @@
--- `index_file::judge` meets its contract: its tests are the definition's, in its order. Assumes nothing.
+-- `index_query::judge` meets its contract: its tests are the definition's, in its order. Assumes nothing.
 use mathlib.Core.Bool.{true, false}
 use borrow.Author.Tests.{lt-ltb, le-ltb}
 use Rattle.codec.specs.Choice.{pick}

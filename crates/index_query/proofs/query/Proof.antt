@@ -1,4 +1,4 @@
--- `index_file::query` meets its contract: the door, then the walk. Assumes nothing.
+-- `index_query::query` meets its contract: the door, then the walk. Assumes nothing.
 use Rattle.index_query.proofs.QueryDoor.{refused-sizes, refused-header, refused-query, asked, accepted}
 use Rattle.index_file.proofs.Judged.{sizes-long}
 use borrow.Author.Needs.{needs}
@@ -10,7 +10,10 @@ use Rattle.index_query.proofs.query.Tie as tie
 abbrev sized : tie.After-header-sound → tie.After-sizes-ok
 sized c = c .before .before
 
-abbrev fits : tie.After-sizes-ok → tie.After-query-ok
+abbrev hashed : tie.After-sizes-ok → tie.After-hash-if
+hashed c = c .before
+
+abbrev fits : tie.After-sizes-ok → tie.After-query-fits
 fits c = c .before .before
 
 -- ---- needs
@@ -28,32 +31,36 @@ returns-2 c =
 
 returns-3 : tie.Need-returns-3
 returns-3 c =
-    let e = c .before .before in
+    let e = c .before .before .before in
     let h = e .before in
     let s = sized h in
     let q = fits s in
-    refused-query _ _ _ _ _ _ _ _ _ (s .sizes-ok .ensures) (h .before .if1 .left) (h .header-sound .ensures) (e .if2 .left) (q .before .wanted-of .ensures) (q .query-ok .ensures) (c .before .if3 .taken) (c .ended3 .ensures)
+    refused-query _ _ _ _ _ _ _ _ _ (s .sizes-ok .ensures) (h .before .if1 .left) (h .header-sound .ensures) (e .if2 .left) (q .before .wanted-of .ensures) (q .query-fits .ensures)
+    (hashed s .hash-if .ensures) (c .before .if3 .taken) (c .ended3 .ensures)
 
 criteria-for-requires : tie.Need-criteria-for-requires
-criteria-for-requires c κs = let h = c .before .before in sizes-long _ _ _ (sized h .sizes-ok .ensures) (h .before .if1 .left)
+criteria-for-requires c κs = let h = c .before .before .before in sizes-long _ _ _ (sized h .sizes-ok .ensures) (h .before .if1 .left)
 
 walk-chain-requires : tie.Need-walk-chain-requires
 walk-chain-requires c κs =
     let a = c .before .before in
-    let h = a .before .before in
+    let e = a .before .before in
+    let h = e .before in
     let s = sized h in
-    accepted _ _ _ _ _ _ _ _ _ _ (s .sizes-ok .ensures) (h .before .if1 .left) (h .header-sound .ensures) (a .before .if2 .left) (fits s .query-ok .ensures) (a .if3 .left) (c .before .criteria-for .ensures)
+    accepted _ _ _ _ _ _ _ _ _ (s .sizes-ok .ensures) (h .before .if1 .left) (h .header-sound .ensures) (e .if2 .left) (fits s .query-fits .ensures) (hashed s .hash-if .ensures) (a .if3 .left)
+    (c .before .criteria-for .ensures)
 
 returns-4 : tie.Need-returns-4
 returns-4 c =
     let w = c .before .before in
     let d = w .before .before in
-    let e = d .before .before in
+    let a = d .before in
+    let e = a .before .before in
     let h = e .before in
     let s = sized h in
     let q = fits s in
-    asked _ _ _ _ _ _ _ _ _ (s .sizes-ok .ensures) (h .before .if1 .left) (h .header-sound .ensures) (e .if2 .left) (q .before .wanted-of .ensures) (q .query-ok .ensures) (d .before .if3 .left)
-    (s .before .hash-if .ensures) (d .criteria-for .ensures) (w .walk-chain .ensures)
+    asked _ _ _ _ _ _ _ _ _ (s .sizes-ok .ensures) (h .before .if1 .left) (h .header-sound .ensures) (e .if2 .left) (q .before .wanted-of .ensures) (q .query-fits .ensures)
+    (hashed s .hash-if .ensures) (a .if3 .left) (d .criteria-for .ensures) (w .walk-chain .ensures)
 
 pub query-spec : {M : Type 1} → statement M
 query-spec =

@@ -1,4 +1,4 @@
--- `index_file::read_item` meets its contract: field by field. Assumes nothing.
+-- `index_query::read_item` meets its contract: field by field. Assumes nothing.
 use Rattle.index_file.specs.Index.{itemOf}
 use borrow.Author.Needs.{needs}
 use Rattle.index_query.proofs.read_item.Statement.{statement}

@@ -1,4 +1,4 @@
--- `index_file::walk_chain` meets its contract. The loop's invariant, `Going`: what is found so far and the walk from here are the whole. Assumes nothing.
+-- `index_query::walk_chain` meets its contract. The loop's invariant, `Going`: what is found so far and the walk from here are the whole. Assumes nothing.
 use mathlib.Core.Path.{sym, _∙_}
 use native.Mathlib.Omega.{arith}
 use Rattle.index_query.proofs.WalkLoop.{Going, begins, out-enough, out-last, out-high, out-damaged, out-early, again-pass, again-match}

@@ -1,4 +1,4 @@
--- `index_file::wanted_of` meets its contract, by its test. Assumes nothing.
+-- `index_query::wanted_of` meets its contract, by its test. Assumes nothing.
 use borrow.Author.Tests.{eq-eqb, ne-eqb}
 use Rattle.codec.specs.Choice.{pick}
 use Rattle.index_query.specs.Query.{wantedOf}

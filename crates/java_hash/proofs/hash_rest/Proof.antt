@@ -3,14 +3,14 @@ use Prim.Native.Nat.{_≤_, _-_}
 use mathlib.Core.Path.{_≡_}
 use native.Mathlib.Omega.{arith}
 use lib.ListN.{length, take}
-use Rattle.java_hash.specs.Hash.{units, hashFrom}
+use Rattle.java_hash.specs.Hash.{hashFrom}
 use Rattle.java_hash.proofs.HashLaws.{turn0, turn1, turned}
 use borrow.Author.Needs.{needs}
 use Rattle.java_hash.proofs.hash_rest.Statement.{statement}
 use Rattle.java_hash.proofs.hash_rest.Tie as tie
 
 abbrev Inv-loop : tie.InvT-loop
-Inv-loop start s h₀ i₀ h i = (i ≤ length s) × (h ≡ hashFrom start (units (take i s)))
+Inv-loop start s h₀ i₀ h i = (i ≤ length s) × (h ≡ hashFrom start (take i s))
 
 abbrev μ-loop : tie.MeasureT-loop
 μ-loop start s h₀ i₀ h i = length s - i

@@ -1,10 +1,10 @@
 //! Append, until a log is full.
 
-use crate::data::{message, Keys};
+use crate::data::{message, Keys, Script};
 use crate::effort::Effort;
 use crate::report::Row;
-use crate::store::{Log, Message, Store, ARCHIVE, PLAIN};
-use crate::timing::{interleave, Laps, State, Sweep};
+use crate::store::{Log, Message, Store, ARCHIVE, FURTHER, PLAIN};
+use crate::timing::{interleave, Laps, Side, State, Sweep};
 use std::hint::black_box;
 
 struct Context {
@@ -51,22 +51,29 @@ fn check(context: &mut Context) -> usize {
     context.log.bytes.fill(0);
     let records = fill(&ARCHIVE, context, &mut Laps::default());
     let expected = context.log.bytes.clone();
-    context.log.bytes.fill(0);
-    let same = fill(&PLAIN, context, &mut Laps::default());
-    assert_eq!(same, records, "records appended");
-    assert!(context.log.bytes == expected, "bytes appended");
+    for store in [&PLAIN, &FURTHER] {
+        context.log.bytes.fill(0);
+        let same = fill(store, context, &mut Laps::default());
+        assert_eq!(same, records, "records appended");
+        assert!(context.log.bytes == expected, "bytes appended");
+    }
     records
 }
 
 pub fn run(effort: Effort, put: &mut dyn FnMut(Row)) {
     for body in [64, 256, 1024, 64 << 10] {
         for state in State::BOTH {
-            put(measure(effort, body, state));
+            put(measure(effort, Script::Ascii, body, state));
+        }
+    }
+    for script in Script::WIDE {
+        for state in State::BOTH {
+            put(measure(effort, script, 256, state));
         }
     }
 }
 
-fn measure(effort: Effort, body: usize, state: State) -> Row {
+fn measure(effort: Effort, script: Script, body: usize, state: State) -> Row {
     let (log_size, batches) = match state {
         State::Warm if body <= 1024 => (256 << 10, effort.batches(4000)),
         State::Warm => (512 << 10, effort.batches(4000)),
@@ -74,7 +81,7 @@ fn measure(effort: Effort, body: usize, state: State) -> Row {
     };
     let mut context = Context {
         log: Log::new(log_size, log_size as u64),
-        message: message(1, Keys::Distinct, body),
+        message: message(1, script, Keys::Distinct, body),
         lap: (256 << 10) / body,
         state,
         sweep: Sweep::new(),
@@ -92,19 +99,16 @@ fn measure(effort: Effort, body: usize, state: State) -> Row {
             });
         }
     };
-    let times = interleave(
-        batches,
-        &mut context,
-        &[&side(&ARCHIVE), &side(&PLAIN), &copy],
-    );
+    let sides: [Side<Context>; 4] = [&side(&ARCHIVE), &side(&PLAIN), &copy, &side(&FURTHER)];
+    let times = interleave(batches, &mut context, &sides[..script.sides(3)]);
     let of_record = |time: f64| time / records as f64;
     Row {
-        job: format!("append, body of {body}"),
+        job: format!("append, body of {body}{}", script.note()),
         state: format!("{}; a record of {total} bytes", state.name()),
         archive: of_record(times[0]),
         rust: of_record(times[1]),
-        further: None,
+        further: times.get(3).copied().map(of_record),
         limit: Some(of_record(times[2])),
-        target: Some(if body <= 1024 { 1.1 } else { 1.2 }),
+        target: Some(script.target()),
     }
 }

@@ -1,6 +1,6 @@
 //! One call of dispatch with a budget of 0 or 1 on the smallest and the largest index and store: it must not grow.
 
-use crate::data::{directory, filed, index, message, Keys, TOPIC};
+use crate::data::{directory, filed, index, message, Keys, Script, TOPIC};
 use crate::effort::Effort;
 use crate::report::Point;
 use crate::store::{Filed, Log, Store, ARCHIVE, PLAIN};
@@ -30,7 +30,11 @@ fn context(
 ) -> Context {
     let mut log = Log::new(log_size, log_size as u64);
     let mut end = 0;
-    let answer = ARCHIVE.append(&mut log, &message(0, Keys::Many(1), 100), &mut end);
+    let answer = ARCHIVE.append(
+        &mut log,
+        &message(0, Script::Ascii, Keys::Many(1), 100),
+        &mut end,
+    );
     assert_eq!(answer, 0, "append of a record");
     let filed = filed(&log, rows, queues, entries, index(sizes.0, sizes.1));
     Context {

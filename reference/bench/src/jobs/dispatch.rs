@@ -1,11 +1,11 @@
 //! Dispatch of a whole log into empty queues and an empty index.
 
 use crate::archive::Progress;
-use crate::data::{directory, entries_for, filed, index, written, Keys, Written, TOPIC};
+use crate::data::{directory, entries_for, filed, index, written, Keys, Script, Written};
 use crate::effort::Effort;
 use crate::plain::trace::{Followed, Trace};
 use crate::report::{Point, Row};
-use crate::store::{Filed, Store, AHEAD, ARCHIVE, PLAIN};
+use crate::store::{Filed, Store, ARCHIVE, FURTHER, PLAIN};
 use crate::timing::{interleave, Laps, Sweep};
 use std::hint::black_box;
 
@@ -57,7 +57,7 @@ fn check(context: &mut Context) {
     let progress = context.filed.progress;
     let queues = context.filed.queues.clone();
     let index = context.filed.index.bytes.clone();
-    for store in [&PLAIN, &AHEAD] {
+    for store in [&PLAIN, &FURTHER] {
         empty(context);
         let same = dispatch_all(store, context, &mut Laps::default());
         assert_eq!(same, ended, "answer and steps of dispatch");
@@ -67,11 +67,11 @@ fn check(context: &mut Context) {
     }
 }
 
-fn context(records: u64, queues: u64, slot_count: u64, item_count: u64) -> Context {
-    let written = written(records, queues, Keys::Distinct);
+fn context(script: Script, records: u64, queues: u64, slot_count: u64, item_count: u64) -> Context {
+    let written = written(records, queues, script, Keys::Distinct);
     let filed = filed(
         &written.log,
-        directory(queues, TOPIC),
+        directory(queues, script.topic()),
         queues,
         entries_for(records, queues),
         index(slot_count, item_count),
@@ -85,8 +85,13 @@ fn context(records: u64, queues: u64, slot_count: u64, item_count: u64) -> Conte
 
 pub fn run(effort: Effort, put: &mut dyn FnMut(Row)) {
     let records = effort.records(300_000);
-    for slot_count in [500_000, 5_000_000] {
-        let mut context = context(records, 8, slot_count, 3 * records + 2);
+    for (script, slot_count) in [
+        (Script::Ascii, 500_000),
+        (Script::Ascii, 5_000_000),
+        (Script::Greek, 500_000),
+        (Script::Chinese, 500_000),
+    ] {
+        let mut context = context(script, records, 8, slot_count, 3 * records + 2);
         check(&mut context);
         let trace = Trace::of(&context.written.log, context.written.end, &context.filed);
         let traffic = |context: &mut Context, laps: &mut Laps| {
@@ -102,17 +107,17 @@ pub fn run(effort: Effort, put: &mut dyn FnMut(Row)) {
         let times = interleave(
             effort.batches(30),
             &mut context,
-            &[&side(&ARCHIVE), &side(&PLAIN), &side(&AHEAD), &traffic],
+            &[&side(&ARCHIVE), &side(&PLAIN), &side(&FURTHER), &traffic],
         );
         let of_record = |time: f64| time / records as f64;
         put(Row {
-            job: format!("dispatch of {records}, K = {slot_count}"),
+            job: format!("dispatch of {records}, K = {slot_count}{}", script.note()),
             state: "cold, empty index; a record".to_string(),
             archive: of_record(times[0]),
             rust: of_record(times[1]),
             further: Some(of_record(times[2])),
             limit: Some(of_record(times[3])),
-            target: Some(1.0),
+            target: Some(script.target()),
         });
     }
 }
@@ -126,7 +131,7 @@ pub fn run_growth(effort: Effort, put: &mut dyn FnMut(Point)) {
         (effort.records(300_000), 20),
         (most, 6),
     ] {
-        let mut context = context(records, 16, 5_000_000, 3 * most + 2);
+        let mut context = context(Script::Ascii, records, 16, 5_000_000, 3 * most + 2);
         check(&mut context);
         let times = interleave(
             effort.batches(batches),

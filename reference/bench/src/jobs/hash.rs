@@ -1,7 +1,7 @@
 //! The hash of a key, as the time that its bytes add to a query on an empty index.
 
 use crate::archive::Found;
-use crate::data::{directory, filed, index, message, mixed, Keys};
+use crate::data::{directory, filed, index, message, mixed, Keys, Script};
 use crate::effort::Effort;
 use crate::report::Row;
 use crate::store::{Index, Log, Range, Store, ARCHIVE, BYTEWISE, PLAIN};
@@ -63,7 +63,7 @@ fn check(context: &mut Context, length: usize) {
 /// The index of a log with one record, which has this key.
 fn index_with(key: &[u8]) -> Index {
     let mut log = Log::new(4096, 4096);
-    let mut record = message(0, Keys::Distinct, 0);
+    let mut record = message(0, Script::Ascii, Keys::Distinct, 0);
     record.topic = TOPIC.to_vec();
     record.properties = [b"KEYS\x01", key].concat();
     let mut end = 0;

@@ -1,7 +1,7 @@
 //! Dispatch of records with many keys: the cost of a key must not grow.
 
 use crate::archive::Progress;
-use crate::data::{directory, entries_for, filed, index, written, Keys, Written, TOPIC};
+use crate::data::{directory, entries_for, filed, index, written, Keys, Script, Written, TOPIC};
 use crate::effort::Effort;
 use crate::report::Point;
 use crate::store::{Filed, Store, ARCHIVE, PLAIN};
@@ -47,7 +47,7 @@ pub fn run(effort: Effort, put: &mut dyn FnMut(Point)) {
     let mut first = None;
     for keys in [1, 2, 10, 100, 1000] {
         let records = (all / keys).max(1);
-        let written = written(records, 1, Keys::Many(keys));
+        let written = written(records, 1, Script::Ascii, Keys::Many(keys));
         let filed = filed(
             &written.log,
             directory(1, TOPIC),

@@ -9,6 +9,7 @@ mod query;
 mod queue;
 mod read;
 mod report;
+mod text;
 
 use crate::effort::Effort;
 use crate::report as table;
@@ -21,13 +22,14 @@ enum Job {
 }
 
 /// Those with rows first, since each kind has its table.
-const JOBS: [(&str, Job); 11] = [
+const JOBS: [(&str, Job); 12] = [
     ("append", Job::Rows(append::run)),
     ("read", Job::Rows(read::run)),
     ("dispatch", Job::Rows(dispatch::run)),
     ("queue", Job::Rows(queue::run)),
     ("query", Job::Rows(query::run)),
     ("hash", Job::Rows(hash::run)),
+    ("text", Job::Rows(text::run)),
     ("report", Job::Rows(report::run)),
     ("growth", Job::Points(dispatch::run_growth)),
     ("budget", Job::Points(budget::run)),

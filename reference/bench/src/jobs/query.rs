@@ -1,13 +1,13 @@
 //! Queries on an index that is larger than the caches, keys in no order.
 
 use crate::data::{
-    depot_key, directory, entries_for, filed, index, mixed, order_key, unique_key, written, Keys,
-    TOPIC,
+    depot_key, directory, entries_for, filed, index, missing_key, mixed, order_key, unique_key,
+    written, Keys, Script,
 };
 use crate::effort::Effort;
 use crate::report::Row;
-use crate::store::{Index, Range, Store, ARCHIVE, PLAIN};
-use crate::timing::{interleave, Laps, State, Sweep};
+use crate::store::{Index, Range, Store, ARCHIVE, FURTHER, PLAIN};
+use crate::timing::{interleave, Laps, Side, State, Sweep};
 use std::hint::black_box;
 
 const QUEUES: u64 = 8;
@@ -33,6 +33,7 @@ impl Texts {
 }
 
 struct Context {
+    script: Script,
     index: Index,
     texts: Texts,
     /// Keys of a lap.
@@ -46,11 +47,12 @@ struct Context {
 fn side(store: &'static Store) -> impl Fn(&mut Context, &mut Laps) {
     move |context, laps| {
         context.state.prepare(&context.sweep);
+        let topic = context.script.topic();
         for keys in context.texts.laps(context.lap) {
             laps.time(|| {
                 for key in keys {
                     let out = &mut context.out;
-                    black_box(store.query(&context.index, TOPIC, key, &context.range, out));
+                    black_box(store.query(&context.index, topic, key, &context.range, out));
                     black_box(&context.out);
                 }
             });
@@ -85,10 +87,10 @@ fn follow(index: &Index, chains: &[Chain]) -> usize {
 }
 
 /// A key's slot, by the definition.
-fn slot_of(key: &[u8]) -> usize {
-    let text = TOPIC.iter().chain(b"#").chain(key);
-    let hash = text.fold(0u32, |hash, byte| {
-        hash.wrapping_mul(31).wrapping_add(u32::from(*byte))
+fn slot_of(topic: &[u8], key: &[u8]) -> usize {
+    let text = String::from_utf8([topic, b"#", key].concat()).expect("text");
+    let hash = text.encode_utf16().fold(0u32, |hash, unit| {
+        hash.wrapping_mul(31).wrapping_add(u32::from(unit))
     });
     let magnitude = (hash as i32).checked_abs().unwrap_or(0) as usize;
     40 + 4 * (magnitude % SLOTS as usize)
@@ -96,11 +98,12 @@ fn slot_of(key: &[u8]) -> usize {
 
 /// What each side answers, counts and finds is the same; the chains that the queries read.
 fn check(context: &Context, matches: u64) -> Vec<Chain> {
+    let topic = context.script.topic();
     let mut chains = Vec::new();
     for key in context.texts.laps(1).flatten() {
         let query = |store: &Store| {
             let mut out = vec![u64::MAX; context.out.len()];
-            let read = store.query(&context.index, TOPIC, key, &context.range, &mut out);
+            let read = store.query(&context.index, topic, key, &context.range, &mut out);
             (read, out)
         };
         let expected = query(&ARCHIVE);
@@ -108,9 +111,11 @@ fn check(context: &Context, matches: u64) -> Vec<Chain> {
         assert_eq!(answer, 0, "answer of a query");
         // Another key may have the same hash.
         assert!(found.positions >= matches, "matches of a query");
-        assert!(query(&PLAIN) == expected, "query");
+        for store in [&PLAIN, &FURTHER] {
+            assert!(query(store) == expected, "query");
+        }
         chains.push(Chain {
-            slot: slot_of(key),
+            slot: slot_of(topic, key),
             items: found.items_read,
         });
     }
@@ -124,17 +129,24 @@ struct Kind {
     lap: usize,
     keys: u64,
     all: u64,
-    text: fn(u64) -> String,
+    text: fn(Script, u64) -> String,
 }
 
 pub fn run(effort: Effort, put: &mut dyn FnMut(Row)) {
+    for script in Script::ALL {
+        measure_all(effort, script, put);
+    }
+}
+
+/// The kinds of keys, with longer chains only in ASCII: they cost the same in every script.
+fn measure_all(effort: Effort, script: Script, put: &mut dyn FnMut(Row)) {
     let depots = effort.records(500);
     let records = 2000 * depots;
     let orders = records / 32;
-    let written = written(records, QUEUES, Keys::Grouped { orders, depots });
+    let written = written(records, QUEUES, script, Keys::Grouped { orders, depots });
     let mut filed = filed(
         &written.log,
-        directory(QUEUES, TOPIC),
+        directory(QUEUES, script.topic()),
         QUEUES,
         entries_for(records, QUEUES),
         index(SLOTS, 3 * records),
@@ -143,8 +155,9 @@ pub fn run(effort: Effort, put: &mut dyn FnMut(Row)) {
     assert_eq!(answer, 0, "dispatch catches up");
     drop(written);
     let mut context = Context {
+        script,
         index: filed.index,
-        texts: Texts::of(0, unique_key),
+        texts: Texts::of(0, |i| unique_key(script, i)),
         lap: 0,
         range: Range {
             first_time: 0,
@@ -162,7 +175,7 @@ pub fn run(effort: Effort, put: &mut dyn FnMut(Row)) {
             lap: 1000,
             keys: records / 4,
             all: records,
-            text: |i| format!("{}+", unique_key(i)),
+            text: missing_key,
         },
         Kind {
             name: "1 match",
@@ -189,10 +202,14 @@ pub fn run(effort: Effort, put: &mut dyn FnMut(Row)) {
             text: depot_key,
         },
     ];
+    let kinds = match script {
+        Script::Ascii => &kinds[..],
+        _ => &kinds[..2],
+    };
     for kind in kinds {
         for state in State::BOTH {
             context.state = state;
-            put(measure(effort, &kind, &mut context));
+            put(measure(effort, kind, &mut context));
         }
     }
 }
@@ -202,7 +219,7 @@ fn measure(effort: Effort, kind: &Kind, context: &mut Context) -> Row {
         State::Warm => (kind.lap as u64, effort.batches(2000)),
         State::Cold => (kind.keys, effort.batches(12)),
     };
-    context.texts = Texts::of(keys, |i| (kind.text)(mixed(i) % kind.all));
+    context.texts = Texts::of(keys, |i| (kind.text)(context.script, mixed(i) % kind.all));
     context.lap = kind.lap;
     context.range.wanted = kind.matches;
     context.out = vec![0; kind.matches.max(32) as usize];
@@ -213,15 +230,17 @@ fn measure(effort: Effort, kind: &Kind, context: &mut Context) -> Row {
             black_box(laps.time(|| follow(&context.index, chains)));
         }
     };
-    let times = interleave(batches, context, &[&side(&ARCHIVE), &side(&PLAIN), &loads]);
+    let sides: [Side<Context>; 4] = [&side(&ARCHIVE), &side(&PLAIN), &loads, &side(&FURTHER)];
+    let sides = &sides[..context.script.sides(3)];
+    let times = interleave(batches, context, sides);
     let of_query = |time: f64| time / keys as f64;
     Row {
-        job: format!("query, {}", kind.name),
+        job: format!("query, {}{}", kind.name, context.script.note()),
         state: format!("{}; a query", context.state.name()),
         archive: of_query(times[0]),
         rust: of_query(times[1]),
-        further: None,
+        further: times.get(3).copied().map(of_query),
         limit: Some(of_query(times[2])),
-        target: Some(if kind.matches < 32 { 1.0 } else { 1.1 }),
+        target: Some(context.script.target()),
     }
 }

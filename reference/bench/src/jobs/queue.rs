@@ -1,6 +1,6 @@
 //! Queue reading, all entries or those with a tag.
 
-use crate::data::{directory, entries_for, filed, index, written, Keys, TOPIC};
+use crate::data::{directory, entries_for, filed, index, written, Keys, Script, TOPIC};
 use crate::effort::Effort;
 use crate::report::Row;
 use crate::store::{Filed, Store, ARCHIVE, PLAIN};
@@ -88,7 +88,7 @@ fn load(context: &mut Context, laps: &mut Laps) {
 }
 
 pub fn run(effort: Effort, put: &mut dyn FnMut(Row)) {
-    let written = written(RECORDS, QUEUES, Keys::Distinct);
+    let written = written(RECORDS, QUEUES, Script::Ascii, Keys::Distinct);
     let mut filed = filed(
         &written.log,
         directory(QUEUES, TOPIC),

@@ -1,11 +1,11 @@
 //! Record reading, one record after the other.
 
 use crate::archive::Record;
-use crate::data::{written, Keys, Written};
+use crate::data::{written, Keys, Script, Written};
 use crate::effort::Effort;
 use crate::report::Row;
-use crate::store::{Store, ARCHIVE, PLAIN, UNREAD};
-use crate::timing::{interleave, Laps, State, Sweep};
+use crate::store::{Store, ARCHIVE, FURTHER, PLAIN, UNREAD};
+use crate::timing::{interleave, Laps, Side, State, Sweep};
 use std::hint::black_box;
 
 /// Records of a lap: they fit into the second cache.
@@ -62,19 +62,27 @@ fn check(written: &Written) -> Vec<u64> {
         let mut expected = UNREAD;
         let answer = ARCHIVE.read_record(&written.log, position, written.end, &mut expected);
         assert_eq!(answer, 0, "a record or blank that reads");
-        let mut read = Record::default();
-        let same = PLAIN.read_record(&written.log, position, written.end, &mut read);
-        assert_eq!((same, read), (answer, expected), "record reading");
-        if read.kind == RECORD {
+        for store in [&PLAIN, &FURTHER] {
+            let mut read = Record::default();
+            let same = store.read_record(&written.log, position, written.end, &mut read);
+            assert_eq!((same, read), (answer, expected), "record reading");
+        }
+        if expected.kind == RECORD {
             positions.push(position);
         }
-        position += read.total;
+        position += expected.total;
     }
     positions
 }
 
 pub fn run(effort: Effort, put: &mut dyn FnMut(Row)) {
-    let written = written(effort.records(300_000), 8, Keys::Distinct);
+    for script in Script::ALL {
+        measure(effort, script, put);
+    }
+}
+
+fn measure(effort: Effort, script: Script, put: &mut dyn FnMut(Row)) {
+    let written = written(effort.records(300_000), 8, script, Keys::Distinct);
     let positions = check(&written);
     let mut context = Context {
         written,
@@ -89,20 +97,17 @@ pub fn run(effort: Effort, put: &mut dyn FnMut(Row)) {
         };
         context.state = state;
         context.positions = positions[..records].to_vec();
-        let times = interleave(
-            batches,
-            &mut context,
-            &[&side(&ARCHIVE), &side(&PLAIN), &load],
-        );
+        let sides: [Side<Context>; 4] = [&side(&ARCHIVE), &side(&PLAIN), &load, &side(&FURTHER)];
+        let times = interleave(batches, &mut context, &sides[..script.sides(3)]);
         let of_record = |time: f64| time / records as f64;
         put(Row {
-            job: "record reading".to_string(),
+            job: format!("record reading{}", script.note()),
             state: format!("{}; a record of about 300 bytes", state.name()),
             archive: of_record(times[0]),
             rust: of_record(times[1]),
-            further: None,
+            further: times.get(3).copied().map(of_record),
             limit: Some(of_record(times[2])),
-            target: Some(1.0),
+            target: Some(script.target()),
         });
     }
 }

@@ -3,25 +3,21 @@
 //! in its turn.
 
 use super::answer;
+use super::blocks::{each, Space};
 use super::bytes::{be32, be64};
 use super::dispatch::{call, duties, Job, Lent};
 use super::hash;
 use super::properties::Values;
-use super::record::{Entry, Record};
+use super::record::{Entry, Record, Text};
+use super::text::OnePass;
 use crate::archive::{Progress, Sizes};
-use std::arch::x86_64::{
-    __m128i, _mm_cmpeq_epi8, _mm_loadu_si128, _mm_min_epu8, _mm_movemask_epi8, _mm_prefetch,
-    _mm_set1_epi8, _MM_HINT_T0,
-};
+use std::arch::x86_64::{_mm_prefetch, _MM_HINT_T0};
 
 /// Records read before the first of them is filed.
 const RECORDS: usize = 16;
 
 /// Items whose hashes are kept; a record with more has them made again.
 const KEPT: usize = 4;
-
-/// Bytes looked at in one turn.
-const WIDTH: usize = 16;
 
 /// A record or blank that was read.
 #[derive(Clone, Copy, Default)]
@@ -34,103 +30,9 @@ struct Read<'a> {
     queue_offset: u64,
     tag_code: u64,
     store_time: u64,
-    properties: &'a [u8],
+    values: Values<'a>,
     items: usize,
     kept: [(u32, u32); KEPT],
-}
-
-/// Bytes that are looked for: one by one, or many at a time as a mask.
-trait Sought {
-    fn is(byte: u8) -> bool;
-    fn among(block: __m128i) -> __m128i;
-}
-
-/// Bytes 0, 1 and 2.
-struct Low;
-
-impl Sought for Low {
-    #[inline(always)]
-    fn is(byte: u8) -> bool {
-        byte <= 2
-    }
-
-    #[inline(always)]
-    fn among(block: __m128i) -> __m128i {
-        // SSE2 belongs to the baseline.
-        unsafe { _mm_cmpeq_epi8(_mm_min_epu8(block, _mm_set1_epi8(2)), block) }
-    }
-}
-
-struct Space;
-
-impl Sought for Space {
-    #[inline(always)]
-    fn is(byte: u8) -> bool {
-        byte == b' '
-    }
-
-    #[inline(always)]
-    fn among(block: __m128i) -> __m128i {
-        // SSE2 belongs to the baseline.
-        unsafe { _mm_cmpeq_epi8(block, _mm_set1_epi8(b' ' as i8)) }
-    }
-}
-
-/// The bytes that are looked for among the first ones, as many as are looked at in one turn: a bit for each.
-#[inline(always)]
-fn marks<S: Sought>(bytes: &[u8]) -> u32 {
-    if let Some(block) = bytes.first_chunk::<WIDTH>() {
-        // The block has as many bytes as are loaded; SSE2 belongs to the baseline.
-        unsafe {
-            let block = _mm_loadu_si128(block.as_ptr().cast());
-            return _mm_movemask_epi8(S::among(block)) as u32;
-        }
-    }
-    let bits = bytes.iter().enumerate();
-    bits.fold(0, |marks, (i, byte)| marks | u32::from(S::is(*byte)) << i)
-}
-
-/// Calls `visit` with the place of each byte that is looked for.
-#[inline(always)]
-fn each<S: Sought>(bytes: &[u8], mut visit: impl FnMut(usize)) {
-    let last = bytes.len().saturating_sub(WIDTH);
-    let mut at = 0;
-    while at < bytes.len() {
-        // The last block ends with the bytes; what it has in common with the one before is not visited again.
-        let from = at.min(last);
-        let mut left = marks::<S>(&bytes[from..]) & (u32::MAX << (at - from));
-        while left != 0 {
-            visit(from + left.trailing_zeros() as usize);
-            left &= left - 1;
-        }
-        at = from + WIDTH;
-    }
-}
-
-#[inline(always)]
-fn scan(properties: &[u8]) -> Values<'_> {
-    let mut values = Values::default();
-    let mut start = 0;
-    let mut separator = 0;
-    let mut separators = 0;
-    each::<Low>(properties, |i| match properties[i] {
-        1 => {
-            separators += 1;
-            separator = i;
-        }
-        2 => {
-            if separators == 1 {
-                values.note(properties, start, separator, i);
-            }
-            start = i + 1;
-            separators = 0;
-        }
-        _ => {}
-    });
-    if separators == 1 {
-        values.note(properties, start, separator, properties.len());
-    }
-    values
 }
 
 /// Calls `visit` with the unique key and each part of KEYS.
@@ -153,28 +55,32 @@ fn each_key<'a>(values: &Values<'a>, mut visit: impl FnMut(&'a [u8])) {
 }
 
 #[inline(always)]
-fn read_record<'a>(job: &Job<'a>, record: &Record<'a>, read: &mut Read<'a>) {
+fn read_record<'a>(job: &Job<'a>, record: &Record<'a>, read: &mut Read<'a>) -> Result<(), u32> {
+    let Text {
+        topic,
+        topic_ascii,
+        values,
+    } = record.text::<OnePass>()?;
     let head = record.head();
     let (makes_entry, makes_items) = duties(be32(head, 36));
-    let values = scan(record.properties);
     read.total = record.own.len() as u64;
     read.is_record = true;
     read.makes_entry = makes_entry;
     read.queue_offset = be64(head, 20);
     read.store_time = be64(head, 56);
-    read.properties = record.properties;
+    read.values = values;
     read.items = 0;
     if makes_entry {
-        let row = job.directory.row_of(be32(head, 12), record.topic);
+        let row = job.directory.row_of(be32(head, 12), topic);
         read.row = row.map(|row| row as u8);
-        read.tag_code = hash::tag_code(values.tags);
+        read.tag_code = hash::tag_code(values.tags, values.ascii);
     }
     if makes_items {
-        let prefix = hash::of_topic(record.topic);
+        let prefix = hash::of_topic(topic, topic_ascii);
         let mut items = 0;
         each_key(&values, |key| {
             if let Some(kept) = read.kept.get_mut(items) {
-                let hash = hash::of_key(prefix, key);
+                let hash = hash::of_key(prefix, key, values.ascii);
                 let slot = job.index.slot_of(hash);
                 // A fetch of a lent byte; it changes nothing.
                 unsafe { _mm_prefetch::<_MM_HINT_T0>(job.index.slot_address(slot).cast()) };
@@ -185,6 +91,7 @@ fn read_record<'a>(job: &Job<'a>, record: &Record<'a>, read: &mut Read<'a>) {
         read.prefix = prefix;
         read.items = items;
     }
+    Ok(())
 }
 
 /// The hashes and slots of a record's items.
@@ -194,8 +101,8 @@ fn items_of<'r>(job: &Job, read: &'r Read, more: &'r mut Vec<(u32, u32)>) -> &'r
         return &read.kept[..read.items];
     }
     more.clear();
-    each_key(&scan(read.properties), |key| {
-        let hash = hash::of_key(read.prefix, key);
+    each_key(&read.values, |key| {
+        let hash = hash::of_key(read.prefix, key, read.values.ascii);
         more.push((hash, job.index.slot_of(hash) as u32));
     });
     more
@@ -257,7 +164,12 @@ fn run(job: &mut Job) -> (u32, u64) {
                     place.total = rest;
                     place.is_record = false;
                 }
-                Ok(Entry::Record(record)) => read_record(job, &record, place),
+                Ok(Entry::Record(record)) => {
+                    if let Err(answer) = read_record(job, &record, place) {
+                        stop = Some(answer);
+                        break;
+                    }
+                }
             }
             read_position += place.total;
             read_steps += 1;

@@ -4,6 +4,7 @@ use super::answer;
 use super::bytes::{be32, be64, put32, put64};
 use super::hash;
 use super::record::{MAX_PROPERTIES, MAX_TIME, MAX_TOPIC};
+use super::text::{Decoder, Standard};
 use crate::archive::{Found, Sizes};
 
 const HEADER: usize = 40;
@@ -170,7 +171,7 @@ struct Wish<'a> {
 ///
 /// # Safety
 /// As the C interface asks.
-pub unsafe extern "C" fn query(
+pub unsafe extern "C" fn query<D: Decoder>(
     index: *const u8,
     index_len: usize,
     sizes: *const Sizes,
@@ -195,7 +196,7 @@ pub unsafe extern "C" fn query(
         },
         std::slice::from_raw_parts(topic, topic_len),
         std::slice::from_raw_parts(key, key_len),
-        |topic, key| hash::of_key(hash::of_topic(topic), key),
+        |topic, key| hash::of_question::<D>(topic, key, hash::continued_bytes),
         std::slice::from_raw_parts_mut(out, out_len),
         &mut *found,
     )
@@ -230,10 +231,7 @@ pub unsafe extern "C" fn query_bytewise(
         },
         std::slice::from_raw_parts(topic, topic_len),
         std::slice::from_raw_parts(key, key_len),
-        |topic, key| {
-            let prefix = hash::of_topic_bytewise(topic);
-            hash::magnitude(hash::continued_bytewise(prefix, key))
-        },
+        |topic, key| hash::of_question::<Standard>(topic, key, hash::continued_bytewise),
         std::slice::from_raw_parts_mut(out, out_len),
         &mut *found,
     )
@@ -245,7 +243,7 @@ fn answered(
     wish: &Wish,
     topic: &[u8],
     key: &[u8],
-    hash_of: impl Fn(&[u8], &[u8]) -> u32,
+    hash_of: impl Fn(&[u8], &[u8]) -> Option<u32>,
     out: &mut [u64],
     found: &mut Found,
 ) -> u32 {
@@ -265,8 +263,11 @@ fn answered(
     {
         return answer::MALFORMED;
     }
+    let Some(hash) = hash_of(topic, key) else {
+        return answer::MALFORMED;
+    };
     let out = &mut out[..wanted as usize];
-    walk(index, header, wish, hash_of(topic, key), out, found)
+    walk(index, header, wish, hash, out, found)
 }
 
 #[inline(always)]

@@ -1,19 +1,22 @@
 //! The same operations in fast plain Rust, with the same checks, answers and bytes: fields by `from_be_bytes`, copies by
-//! `copy_from_slice`, a hash of eight bytes a turn, properties in one pass, the index header kept in registers during a
-//! call of dispatch.
+//! `copy_from_slice`, a hash of eight bytes a turn where text is ASCII, properties in one pass of 16 bytes a turn that also
+//! tells whether they are ASCII (where only that is asked, no more than it), other text judged by `from_utf8` and hashed
+//! character by character, the index header kept in registers during a call of dispatch.
 
 pub mod ahead;
 pub mod append;
+mod blocks;
 mod bytes;
 mod directory;
 pub mod dispatch;
 mod geometry;
-mod hash;
+pub mod hash;
 pub mod index;
 mod properties;
 pub mod queue;
 pub mod record;
 pub mod report;
+pub mod text;
 pub mod trace;
 
 /// Answer numbers.

@@ -3,9 +3,10 @@
 use super::bytes::be32;
 use super::directory::Directory;
 use super::hash;
-use super::properties::{parts, Values};
+use super::properties::parts;
 use super::queue::ENTRY;
 use super::record::{entry_at, Entry, HEAD};
+use super::text::Standard;
 use crate::store::{Filed, Log};
 
 const LINE: usize = 64;
@@ -62,11 +63,12 @@ impl Trace {
             let row = directory
                 .row_of(be32(record.head(), 12), record.topic)
                 .expect("a listed queue");
-            let values = Values::scan(record.properties);
-            let prefix = hash::of_topic(record.topic);
+            let text = record.text::<Standard>().expect("sound text");
+            let values = text.values;
+            let prefix = hash::of_topic(text.topic, text.topic_ascii);
             let before = trace.slots.len();
             for key in [values.unique_key].into_iter().chain(parts(values.keys)) {
-                let hash = hash::of_key(prefix, key);
+                let hash = hash::of_key(prefix, key, values.ascii);
                 trace.slots.push(hash % filed.sizes.slot_count as u32);
             }
             let total = record.own.len() as u64;

@@ -88,7 +88,17 @@ pub struct Plan {
 }
 
 /// Few keys, so that they repeat and share slots.
-pub const KEYS: [&str; 6] = ["a", "b", "c", "k", "cdkiej", "cdkhll"];
+pub const KEYS: [&str; 9] = [
+    "a",
+    "b",
+    "c",
+    "k",
+    "cdkiej",
+    "cdkhll",
+    "\u{e9}",
+    "\u{20ac}",
+    "\u{1f600}",
+];
 
 /// Properties of random pieces; the keys and tags they name.
 pub fn random_properties(rng: &mut Rng) -> (Vec<u8>, Vec<Vec<u8>>, Option<Vec<u8>>) {
@@ -116,7 +126,7 @@ pub fn random_properties(rng: &mut Rng) -> (Vec<u8>, Vec<Vec<u8>>, Option<Vec<u8
                 pieces.push([b"KEYS\x01", &value[..]].concat());
             }
             3 => {
-                let tag = rng.pick(&["Aa", "BB", "polygenelubricants", "\u{e9}"]);
+                let tag = rng.pick(&["Aa", "BB", "polygenelubricants", "\u{e9}", "\u{10ffff}"]);
                 pieces.push(format!("TAGS\x01{tag}").into_bytes());
                 tags = Some(tag.as_bytes().to_vec());
             }
@@ -143,7 +153,12 @@ pub fn random_store(rng: &mut Rng, plan: Plan) -> (Store, Vec<Sent>) {
     let b = s * rng.pick(&[0, 0, 1, 7]);
     let segments = rng.between(1, 3);
     let row_count = rng.between(1, 4);
-    let listed: Vec<(&[u8], u32)> = vec![(b"T", 0), (b"T", 1), (b"TT", 0), (b"\xFFU", 0x0102_0304)];
+    let listed: Vec<(&[u8], u32)> = vec![
+        (b"T", 0),
+        (b"T", 1),
+        (b"TT", 0),
+        ("\u{ff}U".as_bytes(), 0x0102_0304),
+    ];
     let listed = &listed[..row_count as usize];
     let directory = listed
         .iter()
