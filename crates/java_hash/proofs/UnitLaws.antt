@@ -8,7 +8,7 @@ use lib.ListN.{length, drop, length-drop}
 use borrow.Author.Tests.{lt-ltb, le-ltb}
 use Rattle.codec.specs.Choice.{pick}
 use Rattle.utf8.specs.declared.Char.{Char}
-use Rattle.utf8.specs.Utf8.{front, Decoded, unitsOf, units, valid, Known}
+use Rattle.utf8.specs.Utf8.{front, Decoded, unitsOf, units, valid, Known, plain}
 use Rattle.utf8.specs.Inner.{SizeAt}
 use Rattle.utf8.proofs.Texts.{valid-turn, whole, units-turn, units-end, units-done, units-ahead, joined-units}
 use Rattle.utf8.proofs.Plains.{plain-units}
@@ -64,8 +64,11 @@ module _ (start : ℕ) (s : List ℕ) {i h : ℕ} (l : Left start s i h) (k : i 
 
 -- ---- a text that is known to be of bytes below 128
 
+pub plain-hash : (start : ℕ) (s : List ℕ) {r : ℕ} → plain s ≡ true → r ≡ hashFrom start s → r ≡ hashFrom start (units s)
+plain-hash start s e f = f ∙ ap (hashFrom start) (sym (plain-units s e))
+
 pub known-hash : (start : ℕ) (s : List ℕ) {so : Bool} {r : ℕ} → Known so s → so ≡ true → r ≡ hashFrom start s → r ≡ hashFrom start (units s)
-known-hash start s k e f = f ∙ ap (hashFrom start) (sym (plain-units s (k .own e)))
+known-hash start s k e f = plain-hash start s (k .own e) f
 
 -- ---- topic, `#`, key
 

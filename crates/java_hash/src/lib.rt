@@ -184,6 +184,10 @@ pub fn tag_code(tags: &[u8], plain: bool) -> u64
 pub fn any_tag_code(tags: &[u8]) -> u64
     ensures { λ r. ⌜ r ≡ tagCode (now (tags .entry)) ⌝ }
 {
+    if utf8::plain(tags) {
+        let h = hash_bytes(0, tags);
+        return carry(h);
+    }
     carry(hash_any(0, tags))
 }
 
