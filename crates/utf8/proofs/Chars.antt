@@ -1,7 +1,7 @@
 -- One character: its leading ones, the tests of its bytes, its size. Assumes nothing.
-use Prim.Native.Nat.{ℕ, zero, suc, _+_, _-_, _*_, _%_, _≤_, _<_}
+use Prim.Native.Nat.{ℕ, zero, suc, _+_, _-_, _*_, _/_, _%_, _≤_, _<_}
 use mathlib.Core.Path.{_≡_, refl, ap, sym, _∙_}
-use mathlib.Core.Bool.{Bool, true, false, _&&_, _||_}
+use mathlib.Core.Bool.{Bool, true, false, not, _&&_, _||_}
 use mathlib.Core.List.{List, _++_}
 use mathlib.Core.Logic.{⊎-elim}
 use native.Mathlib.Nat.{eq-or-lt-of-le}
@@ -178,28 +178,77 @@ or-none : (x : Bool) → x ≡ x || false
 or-none true = refl
 or-none false = refl
 
+-- the row of three bytes: the first byte's four bits, and the highest of the second byte's six
+abbrev row : ℕ → ℕ → ℕ
+row a b = a % 16 * 2 + b / 32 % 2
+
+-- which of the second bytes the rows 0 and 27 leave
+module _ (b : ℕ) where
+  abbrev Left : ℕ → ℕ → ℕ → Type 0
+  Left a low high = (tail b && not (eqb (row a b) 0)) && not (eqb (row a b) 27) ≡ range low high b
+
+  left-e0 : Left 224 160 191
+  unfolding tail
+  left-e0 =
+      below-or b 128 (Left 224 160 191) (λ h. rw (under 128 191 b h, under 160 191 b (omega arith))) (λ h₁.
+      below-or b 160 (Left 224 160 191) (λ h. rw (within 128 191 b h₁ (omega arith), under 160 191 b h, eq-eqb (row 224 b) 0 (omega arith))) (λ h₂.
+      below-or b 192 (Left 224 160 191) (λ h. rw (within 128 191 b h₁ (omega arith), within 160 191 b h₂ (omega arith), ne-eqb (row 224 b) 0 (λ e. omega arith), ne-eqb (row 224 b) 27 (λ e. omega arith))) (λ h.
+      rw (over 128 191 b h, over 160 191 b h))))
+
+  left-ed : Left 237 128 159
+  unfolding tail
+  left-ed =
+      below-or b 128 (Left 237 128 159) (λ h. rw (under 128 191 b h, under 128 159 b h)) (λ h₁.
+      below-or b 160 (Left 237 128 159) (λ h. rw (within 128 191 b h₁ (omega arith), within 128 159 b h₁ (omega arith), ne-eqb (row 237 b) 0 (λ e. omega arith), ne-eqb (row 237 b) 27 (λ e. omega arith))) (λ h₂.
+      below-or b 192 (Left 237 128 159) (λ h. rw (within 128 191 b h₁ (omega arith), over 128 159 b h₂, ne-eqb (row 237 b) 0 (λ e. omega arith), eq-eqb (row 237 b) 27 (omega arith))) (λ h.
+      rw (over 128 191 b h, over 128 159 b h₂))))
+
+pub and-true : (x : Bool) → x && true ≡ x
+and-true true = refl
+and-true false = refl
+
+and-false : (x : Bool) → x && false ≡ false
+and-false true = refl
+and-false false = refl
+
+-- the third byte's test comes last
+tail-last : (x y p q : Bool) → ((x && y) && p) && q ≡ ((x && p) && q) && y
+tail-last true true p q = sym (and-true (p && q))
+tail-last true false p q = sym (and-false (p && q))
+tail-last false y p q = refl
+
+narrow : (a b c low high : ℕ) → Left b a low high → ((tail b && tail c) && not (eqb (row a b) 0)) && not (eqb (row a b) 27) ≡ range low high b && tail c
+narrow a b c low high e = tail-last (tail b) (tail c) (not (eqb (row a b) 0)) (not (eqb (row a b) 27)) ∙ ap (λ (x : Bool). x && tail c) e
+
 module _ (a b c : ℕ) where
   abbrev Compact3 : Type 0
-  Compact3 = (range 224 239 a && range (pick (eqb a 224) 160 128) (pick (eqb a 237) 159 191) b) && tail c ≡ three a b c
+  Compact3 = (((range 224 239 a && tail b) && tail c) && not (eqb (row a b) 0)) && not (eqb (row a b) 27) ≡ three a b c
+
+  -- in the other rows neither test refuses
+  wide : (a ≡ 224 → ⊥) → (a ≡ 237 → ⊥) → 224 ≤ a → a < 240 → ((tail b && tail c) && not (eqb (row a b) 0)) && not (eqb (row a b) 27) ≡ tail b && tail c
+  wide n m h k =
+      rw (ne-eqb (row a b) 0 (λ e. omega arith), ne-eqb (row a b) 27 (λ e. omega arith))
+      (and-true ((tail b && tail c) && true) ∙ and-true (tail b && tail c))
 
   e0 : a ≡ 224 → Compact3
-  unfolding three range pick
-  e0 e = rw e (or-none ((leb 160 b && leb b 191) && tail c))
+  unfolding three range
+  e0 e = rw e (narrow 224 b c 160 191 (left-e0 b) ∙ or-none (range 160 191 b && tail c))
 
   e1-ec : 225 ≤ a → a < 237 → Compact3
-  unfolding three tail pick
+  unfolding three
   e1-ec h k =
-      rw (within 224 239 a (omega arith) (omega arith), ne-eqb a 224 (λ e. omega arith), ne-eqb a 237 (λ e. omega arith), over 224 224 a (omega arith), within 225 236 a h (omega arith), under 237 237 a (omega arith), under 238 239 a (omega arith))
-      (or-none (range 128 191 b && range 128 191 c))
+      rw (within 224 239 a (omega arith) (omega arith), over 224 224 a (omega arith), within 225 236 a h (omega arith), under 237 237 a (omega arith), under 238 239 a (omega arith))
+      (wide (λ e. omega arith) (λ e. omega arith) (omega arith) (omega arith) ∙ or-none (tail b && tail c))
 
   ed : a ≡ 237 → Compact3
-  unfolding three range pick
-  ed e = rw e (or-none ((leb 128 b && leb b 159) && tail c))
+  unfolding three range
+  ed e = rw e (narrow 237 b c 128 159 (left-ed b) ∙ or-none (range 128 159 b && tail c))
 
   ee-ef : 238 ≤ a → a < 240 → Compact3
-  unfolding three tail pick
+  unfolding three
   ee-ef h k =
-      rw (within 224 239 a (omega arith) (omega arith), ne-eqb a 224 (λ e. omega arith), ne-eqb a 237 (λ e. omega arith), over 224 224 a (omega arith), over 225 236 a (omega arith), over 237 237 a (omega arith), within 238 239 a h (omega arith))
+      rw (within 224 239 a (omega arith) (omega arith), over 224 224 a (omega arith), over 225 236 a (omega arith), over 237 237 a (omega arith), within 238 239 a h (omega arith))
+      (wide (λ e. omega arith) (λ e. omega arith) (omega arith) k)
 
   compact3 : Compact3
   compact3 =
@@ -209,9 +258,9 @@ module _ (a b c : ℕ) where
       below-or a 238 Compact3 (λ h. ed (omega arith)) (λ h₄.
       below-or a 240 Compact3 (ee-ef h₄) (λ h. rw (over 224 239 a h) (sym (three-over a b c 0 h)))))))
 
-  pub three-is : {low high : ℕ} {t : Bool} → low ≡ pick (eqb a 224) 160 128 → high ≡ pick (eqb a 237) 159 191 → t ≡ tail c → ((leb 224 a && leb a 239) && (leb low b && leb b high)) && t ≡ three a b c
+  pub three-is : {t u : Bool} → t ≡ tail b → u ≡ tail c → ((((leb 224 a && leb a 239) && t) && u) && not (eqb (row a b) 0)) && not (eqb (row a b) 27) ≡ three a b c
   unfolding range
-  three-is p q e = rw (p, q, e) compact3
+  three-is p q = rw (p, q) compact3
 
 module _ (a b c d : ℕ) where
   abbrev Compact4 : Type 0
@@ -265,52 +314,6 @@ module _ (n a b c d : ℕ) where
   pub made0 : (n ≡ 0 → ⊥) → (n ≡ 2 → ⊥) → (n ≡ 3 → ⊥) → (n ≡ 4 → ⊥) → none ≡ byOnes n a b c d
   unfolding byOnes pick
   made0 p q r t = rw (ne-eqb n 0 p, ne-eqb n 2 q, ne-eqb n 3 r, ne-eqb n 4 t)
-
--- ---- its size alone
-
-module _ (n a b c d : ℕ) where
-  clash : (t : Bool) → t ≡ false → t ≡ true → ⊥
-  clash t p q = let w : _≡_ {A = ℕ} 0 1 = cc in omega arith
-
-  -- the row of four bytes begins with four ones
-  four-ones : four a b c d ≡ true → leadingOnes a ≡ 4
-  unfolding leadingOnes pick
-  four-ones e =
-      below-or a 240 (leadingOnes a ≡ 4) (λ h. absurd (clash (four a b c d) (four-under a b c d h) e)) (λ h₁.
-      below-or a 248 (leadingOnes a ≡ 4) (λ h. rw (le-ltb a 128 (omega arith), le-ltb a 192 (omega arith), le-ltb a 224 (omega arith), le-ltb a 240 h₁, lt-ltb a 248 h)) (λ h.
-      absurd (clash (four a b c d) (four-over a b c d (omega arith)) e)))
-
-  pub size1 : n ≡ 0 → 1 ≡ byOnes n a b c d .size
-  unfolding byOnes pick
-  size1 e = rw e
-
-  pub size2 : {x y : ℕ} {t : Bool} (u : Bool) → n ≡ 2 → x ≡ a → y ≡ b → t ≡ two x y → t ≡ u → pick u 2 0 ≡ byOnes n a b c d .size
-  unfolding byOnes pick
-  size2 u e p q t f = let g : two a b ≡ u = rw (p, q) at (sym t ∙ f) in rw (e, g) (last u)
-    where
-      last : (u : Bool) → pick u 2 0 ≡ pick u (char 2 (a % 32 * 64 + b % 64)) none .size
-      last true = refl
-      last false = refl
-
-  pub size3 : {x y z : ℕ} {t : Bool} (u : Bool) → n ≡ 3 → x ≡ a → y ≡ b → z ≡ c → t ≡ three x y z → t ≡ u → pick u 3 0 ≡ byOnes n a b c d .size
-  unfolding byOnes pick
-  size3 u e p q s t f = let g : three a b c ≡ u = rw (p, q, s) at (sym t ∙ f) in rw (e, g) (last u)
-    where
-      last : (u : Bool) → pick u 3 0 ≡ pick u (char 3 ((a % 16 * 64 + b % 64) * 64 + c % 64)) none .size
-      last true = refl
-      last false = refl
-
-  pub size4 : {v x y z w : ℕ} {t : Bool} (u : Bool) → n ≡ leadingOnes v → v ≡ a → (n ≡ 0 → ⊥) → (n ≡ 2 → ⊥) → (n ≡ 3 → ⊥) → x ≡ a → y ≡ b → z ≡ c → w ≡ d → t ≡ four x y z w → t ≡ u → pick u 4 0 ≡ byOnes n a b c d .size
-  unfolding byOnes pick
-  size4 u o i n0 n2 n3 p q s v t f = last u (rw (p, q, s, v) at (sym t ∙ f))
-    where
-      nothing : (t : Bool) → 0 ≡ pick t none none .size
-      nothing true = refl
-      nothing false = refl
-
-      last : (u : Bool) → four a b c d ≡ u → pick u 4 0 ≡ byOnes n a b c d .size
-      last true g = let e : n ≡ 4 = o ∙ ap leadingOnes i ∙ four-ones g in rw (e, g)
-      last false g = rw (ne-eqb n 0 n0, ne-eqb n 2 n2, ne-eqb n 3 n3, g) (nothing (eqb n 4))
 
 -- ---- where a character stands its leading ones tell the row
 
@@ -473,26 +476,31 @@ front-joined l m h n = go (kind a b c d)
         rw (at 0 h, at 1 (omega arith), at 2 (omega arith), at 3 i)
     go (kind0 e) = absurd (n (ap (λ (x : Char). x .size) e))
 
--- ---- the character at a place, from its leading ones
+-- ---- the character at a place
+
+module _ (s : List ℕ) (at : ℕ) where
+  abbrev here : Char
+  here = first (getD s at 0) (getD s (at + 1) 0) (getD s (at + 2) 0) (getD s (at + 3) 0)
+
+  front-here : front (drop at s) ≡ here
+  unfolding front
+  front-here = let z : at + 0 ≡ at = omega arith in rw (getD-drop at s 0 0, getD-drop at s 1 0, getD-drop at s 2 0, getD-drop at s 3 0, z)
+
+  here-fits : at < length s → here .size ≤ length s - at
+  here-fits h = let rest : 0 < length (drop at s) = rw length-drop (omega arith) in rw (length-drop, front-here) at (front-fits (drop at s) rest)
+
+-- ---- from its leading ones
 
 pub decoded : (s : List ℕ) (at : ℕ) {n a : ℕ} {r : Char} → at < length s → n ≡ leadingOnes a → a ≡ getD s at 0
     → r ≡ byOnes n (getD s (at + 0) 0) (getD s (at + 1) 0) (getD s (at + 2) 0) (getD s (at + 3) 0) → Decoded s at r
-unfolding front
 decoded s at {n} {a} {r} h e f g =
     let z : at + 0 ≡ at = omega arith in
-    let rest : 0 < length (drop at s) = rw length-drop (omega arith) in
-    let is : r ≡ front (drop at s) = g ∙ rw (e, f, z, getD-drop at s 0 0, getD-drop at s 1 0, getD-drop at s 2 0, getD-drop at s 3 0, z) (by-ones _ _ _ _) in
-    let p : front (drop at s) .size ≤ length s - at = rw length-drop at (front-fits (drop at s) rest) in
-    record { is = is; fits = rw is (omega arith) }
+    let is : r ≡ here s at = g ∙ rw (e, f, z) (by-ones _ _ _ _) in
+    let p = here-fits s at h in
+    record { is = is ∙ sym (front-here s at); fits = rw is (omega arith) }
 
 pub at-0 : (s : List ℕ) (at : ℕ) → getD s at 0 ≡ getD s (at + 0) 0
 at-0 s at = let z : at + 0 ≡ at = omega arith in rw z
-
-pub sized : (s : List ℕ) (at : ℕ) {n a r : ℕ} → at < length s → n ≡ leadingOnes a → a ≡ getD s at 0
-    → r ≡ byOnes n (getD s (at + 0) 0) (getD s (at + 1) 0) (getD s (at + 2) 0) (getD s (at + 3) 0) .size → SizeAt s at r
-sized s at h e f g =
-    let d = decoded s at h e f refl in
-    record { is = g ∙ ap (λ (c : Char). c .size) (d .is); fits = rw g (d .fits) }
 
 -- ---- the same where one stands: no row is judged, and its bytes are all there
 
@@ -521,3 +529,66 @@ module _ (s : List ℕ) (at : ℕ) {n a : ℕ} (h : at < length s) (p : 0 < fron
   pub valid4 : {x y z w : ℕ} → (n ≡ 0 → ⊥) → (n ≡ 2 → ⊥) → (n ≡ 3 → ⊥) → x ≡ getD s at 0 → y ≡ getD s (at + 1) 0 → z ≡ getD s (at + 2) 0 → w ≡ getD s (at + 3) 0
       → Decoded s at (char 4 (((x % 8 * 64 + y % 64) * 64 + z % 64) * 64 + w % 64))
   valid4 n0 n2 n3 i j k l = decoded s at h e f (stood4 _ _ _ _ _ stands n0 n2 n3 (i ∙ at-0 s at) j k l)
+
+-- ---- its size alone, by the range of its first byte
+
+clash : (t : Bool) → t ≡ false → t ≡ true → ⊥
+clash t p q = let w : _≡_ {A = ℕ} 0 1 = cc in omega arith
+
+-- the size of a character of the row, or none
+if-so : (u : Bool) (n code : ℕ) → pick u n 0 ≡ pick u (char n code) none .size
+unfolding pick
+if-so true n code = refl
+if-so false n code = refl
+
+module _ (a b c d : ℕ) where
+  -- a size below n is none, where the first byte is of no shorter row
+  short : (n : ℕ) → (a < 128 → n ≤ 1) → (a < 224 → n ≤ 2) → (a < 240 → n ≤ 3) → n ≤ 4 → first a b c d .size < n → 0 ≡ first a b c d .size
+  short n f g h i k = go (kind a b c d)
+    where
+      go : Kind a b c d → 0 ≡ first a b c d .size
+      go (kind1 p) = below-or a 128 (0 ≡ first a b c d .size) (λ m. absurd (omega (arith, f m, rw (first1 a b c d p) at k))) (λ m. absurd (clash (one a) (one-not a b c d m) p))
+      go (kind2 p q) =
+          below-or a 224 (0 ≡ first a b c d .size) (λ m. absurd (omega (arith, g m, rw (first2 a b c d p q) at k))) (λ m. absurd (clash (two a b) (two-over a b c d m) q))
+      go (kind3 p q r) =
+          below-or a 240 (0 ≡ first a b c d .size) (λ m. absurd (omega (arith, h m, rw (first3 a b c d p q r) at k))) (λ m. absurd (clash (three a b c) (three-over a b c d m) r))
+      go (kind4 p q r t) = absurd (omega (arith, rw (first4 a b c d p q r t) at k))
+      go (kind0 e) = rw e
+
+  size1 : a < 128 → 1 ≡ first a b c d .size
+  size1 h = rw (first1 a b c d (one-so a b c d h))
+
+  size2 : (u : Bool) → 128 ≤ a → a < 224 → two a b ≡ u → pick u 2 0 ≡ first a b c d .size
+  unfolding first pick
+  size2 u h k e = rw (one-not a b c d h, three-under a b c d k, four-under a b c d (omega arith), e) (if-so u 2 (a % 32 * 64 + b % 64))
+
+  size3 : (u : Bool) → 224 ≤ a → a < 240 → three a b c ≡ u → pick u 3 0 ≡ first a b c d .size
+  unfolding first pick
+  size3 u h k e = rw (one-not a b c d (omega arith), two-over a b c d h, four-under a b c d k, e) (if-so u 3 ((a % 16 * 64 + b % 64) * 64 + c % 64))
+
+  size4 : (u : Bool) → 240 ≤ a → four a b c d ≡ u → pick u 4 0 ≡ first a b c d .size
+  unfolding first pick
+  size4 u h e = rw (one-not a b c d (omega arith), two-over a b c d (omega arith), three-over a b c d h, e) (if-so u 4 (((a % 8 * 64 + b % 64) * 64 + c % 64) * 64 + d % 64))
+
+-- the same at a place: x, y, z, w are the bytes that the code read
+module _ (s : List ℕ) (at : ℕ) (h : at < length s) where
+  sized : {r : ℕ} → r ≡ here s at .size → SizeAt s at r
+  sized e = let p = here-fits s at h in record { is = rw (front-here s at) e; fits = rw e (omega arith) }
+
+  -- fewer than n bytes are left
+  pub sized0 : {x : ℕ} (n : ℕ) → x ≡ getD s at 0 → length s - at < n → (x < 128 → n ≤ 1) → (x < 224 → n ≤ 2) → (x < 240 → n ≤ 3) → n ≤ 4 → SizeAt s at 0
+  sized0 n p k f g i j = let m = here-fits s at h in sized (short (getD s at 0) (getD s (at + 1) 0) (getD s (at + 2) 0) (getD s (at + 3) 0) n (rw p at f) (rw p at g) (rw p at i) j (omega arith))
+
+  pub sized1 : {x : ℕ} → x ≡ getD s at 0 → x < 128 → SizeAt s at 1
+  sized1 p k = sized (size1 _ _ _ _ (rw p at k))
+
+  pub sized2 : {x y : ℕ} {t : Bool} (u : Bool) → x ≡ getD s at 0 → y ≡ getD s (at + 1) 0 → 128 ≤ x → x < 224 → t ≡ two x y → t ≡ u → SizeAt s at (pick u 2 0)
+  sized2 u p q k l t e = sized (size2 _ _ _ _ u (rw p at k) (rw p at l) (rw (p, q) at (sym t ∙ e)))
+
+  pub sized3 : {x y z : ℕ} {t : Bool} (u : Bool) → x ≡ getD s at 0 → y ≡ getD s (at + 1) 0 → z ≡ getD s (at + 2) 0 → 224 ≤ x → x < 240 → t ≡ three x y z → t ≡ u
+      → SizeAt s at (pick u 3 0)
+  sized3 u p q r k l t e = sized (size3 _ _ _ _ u (rw p at k) (rw p at l) (rw (p, q, r) at (sym t ∙ e)))
+
+  pub sized4 : {x y z w : ℕ} {t : Bool} (u : Bool) → x ≡ getD s at 0 → y ≡ getD s (at + 1) 0 → z ≡ getD s (at + 2) 0 → w ≡ getD s (at + 3) 0 → 240 ≤ x → t ≡ four x y z w → t ≡ u
+      → SizeAt s at (pick u 4 0)
+  sized4 u p q r v k t e = sized (size4 _ _ _ _ u (rw p at k) (rw (p, q, r, v) at (sym t ∙ e)))

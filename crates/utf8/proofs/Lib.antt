@@ -1,6 +1,6 @@
 pub mod Chars
 pub mod Texts
-pub mod Eights
 pub mod Plains
+pub mod Words
 pub mod Spelling
 pub mod Examples

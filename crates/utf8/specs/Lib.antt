@@ -1,3 +1,4 @@
 pub mod Utf8
+pub mod Words
 pub mod Inner
 pub mod Claims

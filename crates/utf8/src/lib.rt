@@ -3,7 +3,6 @@
 ghost use mathlib.Core.Path.{_≡_};
 ghost use Prim.Native.Nat.{_+_, _≤_, _<_};
 ghost use lib.ListN.{length, getD, drop};
-ghost use Rattle.codec.specs.Bytes.{part};
 ghost use Rattle.codec.specs.Choice.{pick};
 ghost use Rattle.utf8.specs.Utf8.{tail, two, three, four, char, none, front, Decoded};
 ghost use Rattle.utf8.specs.Utf8 as utf;
@@ -46,12 +45,12 @@ fn is_two(a: u32, b: u32) -> bool
     ((194 <= a) & (a <= 223)) & is_tail(b)
 }
 
+// The row of the table is told by the four bits of the first byte and the highest of the second byte's six: 0 would be an overlong form, 27 a surrogate.
 fn is_three(a: u32, b: u32, c: u32) -> bool
     ensures { λ r. ⌜ r ≡ three a b c ⌝ }
 {
-    let low = if a == 224 { 160 } else { 128 };
-    let high = if a == 237 { 159 } else { 191 };
-    ((224 <= a) & (a <= 239)) & ((low <= b) & (b <= high)) & is_tail(c)
+    let row = a % 16 * 2 + b / 32 % 2;
+    ((224 <= a) & (a <= 239)) & is_tail(b) & is_tail(c) & (row != 0) & (row != 27)
 }
 
 fn is_four(a: u32, b: u32, c: u32, d: u32) -> bool
@@ -139,14 +138,6 @@ pub fn decode_valid(s: &[u8], at: usize) -> Char
     }
 }
 
-// Whether each of eight bytes is below 128.
-pub fn plain8(s: &[u8], at: usize) -> bool
-    requires { ⌜ at + 8 ≤ length (now s) ⌝ }
-    ensures { λ r. ⌜ r ≡ utf.plain (part 8 at (now (s .entry))) ⌝ }
-{
-    codec::get_u64_le(s, at) & 0x8080808080808080 == 0
-}
-
 // Whether each byte is below 128, one by one.
 fn plain_bytes(s: &[u8]) -> bool
     ensures { λ r. ⌜ r ≡ utf.plain (now (s .entry)) ⌝ }
@@ -160,7 +151,8 @@ fn plain_bytes(s: &[u8]) -> bool
     below
 }
 
-// Whether each byte is below 128: eight a turn, the last eight by themselves.
+// Whether each byte is below 128: the bits of all words gathered, the last eight bytes first. A word is read the turn before it is gathered: joined at
+// once with those before it, it would be read byte by byte.
 pub fn plain(s: &[u8]) -> bool
     ensures { λ r. ⌜ r ≡ utf.plain (now (s .entry)) ⌝ }
 {
@@ -168,13 +160,15 @@ pub fn plain(s: &[u8]) -> bool
     if n < 8 {
         return plain_bytes(s);
     }
-    let mut below = plain8(s, n - 8);
+    let mut bits: u64 = 0;
+    let mut word = codec::get_u64_le(s, n - 8);
     let mut i: usize = 0;
     while 8 <= n - i {
-        below = below & plain8(s, i);
+        bits = bits | word;
+        word = codec::get_u64_le(s, i);
         i += 8;
     }
-    below
+    (bits | word) & 0x8080808080808080 == 0
 }
 
 // How many bytes the character at a place takes, 0 where none stands: for who needs no number, quicker than `decode`.
@@ -182,20 +176,29 @@ fn size_at(s: &[u8], at: usize) -> usize
     requires { ⌜ at < length (now s) ⌝ }
     ensures { λ r. ⌜ SizeAt (now (s .entry)) at r ⌝ }
 {
-    let ones = leading_ones(s[at]);
-    if ones == 0 {
+    let a = codec::wide(s[at]) as u32;
+    if a < 128 {
         return 1;
     }
-    let a = byte(s, at, 0);
-    let b = byte(s, at, 1);
-    if ones == 2 {
+    let room = s.len() - at;
+    if room < 2 {
+        return 0;
+    }
+    let b = codec::wide(s[at + 1]) as u32;
+    if a < 224 {
         return if is_two(a, b) { 2 } else { 0 };
     }
-    let c = byte(s, at, 2);
-    if ones == 3 {
+    if room < 3 {
+        return 0;
+    }
+    let c = codec::wide(s[at + 2]) as u32;
+    if a < 240 {
         return if is_three(a, b, c) { 3 } else { 0 };
     }
-    let d = byte(s, at, 3);
+    if room < 4 {
+        return 0;
+    }
+    let d = codec::wide(s[at + 3]) as u32;
     if is_four(a, b, c, d) { 4 } else { 0 }
 }
 

@@ -14,7 +14,7 @@ abbrev μ-loop : tie.MeasureT-loop
 μ-loop s below₀ i₀ below i = length s - i
 
 loop-holds : tie.Need-loop-holds Inv-loop μ-loop
-loop-holds c = judged-start _ _ (λ e. refl)
+loop-holds c = judged-start _
 
 loop-again : tie.Need-loop-again Inv-loop μ-loop
 loop-again c = judged-1 _ _ _ (c .before .before .loop .inv) (c .before .loop-test .taken) refl
