@@ -12,7 +12,7 @@ use Rattle.codec.specs.Bytes.{big, field, part}
 use Rattle.codec.specs.Choice.{pick}
 use Rattle.codec.specs.Lists.{All}
 use Rattle.codec.proofs.Choices.{both, passed}
-use Rattle.codec.proofs.Parts.{part-drop}
+use Rattle.codec.proofs.Parts.{lent-part, part-drop}
 use Rattle.units.specs.declared.Answer.{Answer}
 use Rattle.units.specs.declared.Answer.the-variants.{Done}
 use Rattle.units.specs.declared.LogPosition.{LogPosition}
@@ -84,21 +84,16 @@ module _ (directory : List ℕ) (m : Record) (topic properties l : List ℕ) {ma
           listed = λ i. listed;
         }
 
--- a part that is lent
-lent : (a n : ℕ) (l : List ℕ) → take (a + n - a) (drop a l) ≡ part n a l
-unfolding part
-lent a n l = let e : a + n - a ≡ n = omega arith in rw e
-
 module _ (own : List ℕ) {k : Lengths} (lengths : k ≡ lengthsIn shortHosts own) where
   -- the bytes that the lengths name are there
   pub lengths-held : Holds own (lengthsIn shortHosts own) → Holds own k
   lengths-held h = rw lengths h
 
   pub topic-lent : (let a = topicAt (k .hosts) (k .body) in take (a + k .topic - a) (drop a own)) ≡ topicOf own
-  topic-lent = lent (topicAt (k .hosts) (k .body)) (k .topic) own ∙ ap (λ (x : Lengths). topicIn x own) lengths
+  topic-lent = lent-part (k .topic) (topicAt (k .hosts) (k .body)) own ∙ ap (λ (x : Lengths). topicIn x own) lengths
 
   pub properties-lent : (let a = propertiesAt (k .hosts) (k .body) (k .topic) in take (a + k .properties - a) (drop a own)) ≡ propertiesOf own
-  properties-lent = lent (propertiesAt (k .hosts) (k .body) (k .topic)) (k .properties) own ∙ ap (λ (x : Lengths). propertiesIn x own) lengths
+  properties-lent = lent-part (k .properties) (propertiesAt (k .hosts) (k .body) (k .topic)) own ∙ ap (λ (x : Lengths). propertiesIn x own) lengths
 
 -- of its own bytes, as they were read
 module _ (directory : List ℕ) (p : LogPosition) (own l : List ℕ) {topic properties : List ℕ} {flag : ℕ} {makes : Bool} {items : ℕ} {list : List ℕ}

@@ -3,11 +3,10 @@ use Prim.Native.Nat.{ℕ, _+_, _-_}
 use mathlib.Core.Path.{_≡_, sym, _∙_, ap}
 use mathlib.Core.Bool.{Bool, true, _&&_}
 use mathlib.Core.List.{List, _∷_}
-use native.Mathlib.Omega.{arith}
 use lib.ListN.{take, drop}
-use Rattle.codec.specs.Bytes.{part}
 use Rattle.codec.specs.Lists.{All}
 use Rattle.codec.proofs.Choices.{both}
+use Rattle.codec.proofs.Parts.{lent-part}
 use Rattle.units.specs.declared.Place.{Place}
 use Rattle.utf8.specs.Utf8.{valid, plain, Known}
 use Rattle.utf8.proofs.Plains.{plain-part}
@@ -77,12 +76,8 @@ module _ (v : List ℕ) {at : ℕ} (p : Place) (l : KeysLeft v at) (leads : KeyL
 
 -- a key as it is lent
 pub lent-known : (so : Bool) (v : List ℕ) (p : Place) → Known so (bytesAt p v) → Known so (take (p .at + p .len - p .at) (drop (p .at) v))
-unfolding bytesAt part
-lent-known so v p k = let e : p .at + p .len - p .at ≡ p .len = omega arith in rw e k
-
--- the values that a scan told
-pub values-told : {t : Text} (l : List ℕ) → t ≡ record { values = scanned l; plain = plain l } → t .values ≡ scanned l
-values-told l e = ap (λ (x : Text). x .values) e
+unfolding bytesAt
+lent-known so v p k = rw (lent-part (p .len) (p .at) v) k
 
 -- topic and properties as they are lent
 pub text-lent : {topic properties a b : List ℕ} {t : Text} → topic ≡ a → properties ≡ b → TextKnown a b t → TextKnown topic properties t
