@@ -10,10 +10,8 @@ use Rattle.record_writer.specs.Writing.{fieldsIn}
 use Rattle.commit_log.specs.declared.Geometry.{Geometry}
 use Rattle.commit_log.specs.declared.Appended.{Appended}
 use Rattle.commit_log.specs.Log.{entryIn, appended}
-use Rattle.listing.specs.declared.Listed.{Listed}
-use Rattle.listing.specs.Listing.{ListOutcome}
 use Rattle.interface.specs.Structs.{position, geometryIn}
-use Rattle.swistopal_log.specs.Log.{appendGives, append, Appends, readGives, readRecord, list}
+use Rattle.swistopal_log.specs.Log.{appendGives, append, Appends, readGives, readRecord}
 
 pub append-made : (sizes fields : List ℕ) (parts : RecordParts) (log : List ℕ) (w : ℕ) {g : Geometry} (r : Appended) (log′ : List ℕ) (n : ℕ)
     → g ≡ geometryIn sizes → record { made = r; log = log′ } ≡ appended log g (position w) (fieldsIn fields) parts → n ≡ numberOf (r .answer)
@@ -32,8 +30,3 @@ record-read sizes log p end a out n g t h =
     (λ i. record { answer = h i; «record» = out })
     ∙ ap (λ (x : Told). record { answer = numberOf (x .answer); «record» = x .out }) t
     ∙ (λ i. readGives (entryIn log (g i) (position p) (position end)))
-
-pub list-made : (r : Listed) (text : List ℕ) (n : ℕ) (o : ListOutcome) → record { made = r; text = text } ≡ o → n ≡ numberOf (r .answer)
-    → record { answer = n; text = text; written = r .written } ≡ list o
-unfolding list
-list-made r text n o e h = (λ i. record { answer = h i; text = text; written = r .written }) ∙ ap list e

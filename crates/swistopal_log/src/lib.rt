@@ -1,9 +1,8 @@
-// What other programs link of the log alone: append, record reading and the lister's text of include/swistopal.h. They are an object of their own, so
-// that what dispatch reads a record with has no second caller there and is taken into its loop.
+// What other programs link of the log alone: append and record reading of include/swistopal.h. They are an object of their own, so that what dispatch
+// reads a record with has no second caller there and is taken into its loop.
 ghost use mathlib.Core.Path.{_≡_};
 ghost use Rattle.record_writer.specs.Encode.{partsOf};
-ghost use Rattle.listing.specs.Listing.{listing};
-ghost use Rattle.swistopal_log.specs.Log.{Appends, readRecord, list};
+ghost use Rattle.swistopal_log.specs.Log.{Appends, readRecord};
 use units::LogPosition;
 
 #[no_mangle]
@@ -54,15 +53,5 @@ pub extern "C" fn swistopal_read_record(
         LogPosition(readable_end),
         record,
     );
-    answer.number()
-}
-
-#[no_mangle]
-pub extern "C" fn swistopal_list(segment: &[u8], text: &mut [u8], written: &mut u64) -> u32
-    ensures { λ r. ⌜ record { answer = r; text = now (text .exit); written = now (written .exit) } ≡ list (listing (now (segment .entry)) (now (text .entry))) ⌝ }
-{
-    let made = listing::list(segment, text);
-    let answer = made.answer;
-    *written = made.written as u64;
     answer.number()
 }

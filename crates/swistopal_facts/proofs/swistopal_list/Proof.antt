@@ -1,8 +1,8 @@
--- `swistopal_log::swistopal_list` meets its contract: its layer's outcome, in numbers. Assumes nothing.
-use Rattle.swistopal_log.proofs.Made.{list-made}
+-- `swistopal_facts::swistopal_list` meets its contract: its layer's outcome, in numbers. Assumes nothing.
+use Rattle.swistopal_facts.proofs.Told.{list-made}
 use borrow.Author.Needs.{needs}
-use Rattle.swistopal_log.proofs.swistopal_list.Statement.{statement}
-use Rattle.swistopal_log.proofs.swistopal_list.Tie as tie
+use Rattle.swistopal_facts.proofs.swistopal_list.Statement.{statement}
+use Rattle.swistopal_facts.proofs.swistopal_list.Tie as tie
 
 returns : tie.Need-returns
 returns c = let l = c .before .before .before in list-made _ _ _ _ (l .list .ensures) (c .number .ensures)
