@@ -1,13 +1,13 @@
 -- Sizes and header, judged by the tests of their functions. Assumes nothing.
-use Prim.Native.Nat.{ℕ, _+_, _*_, _-_, _≤_}
+use Prim.Native.Nat.{ℕ, _+_, _*_, _-_, _<_, _≤_, max}
 use mathlib.Core.Path.{_≡_, sym, _∙_}
 use mathlib.Core.Bool.{Bool, true, false, not, _&&_, _||_}
 use mathlib.Core.List.{List}
 use native.Mathlib.Omega.{arith}
 use lib.Dec.{leb, ltb, eqb}
 use lib.ListN.{length}
-use borrow.Author.Tests.{leb-true, eqb-true, le-leb, not-true, not-false}
-use Rattle.codec.proofs.Choices.{both}
+use borrow.Author.Tests.{leb-true, eqb-true, le-leb, lt-ltb, le-ltb, not-true, not-false}
+use Rattle.codec.proofs.Choices.{both, not-so}
 use Rattle.index_file.specs.Index.{usedCount, filledSlots, firstTime, lastTime, firstPosition, lastPosition, timeOk, positionOk, untouched, sizesOk, headerSound}
 use Rattle.index_file.specs.Claims.{DoorSized}
 
@@ -101,13 +101,41 @@ module _ (n : ℕ) (l : List ℕ) where
         s .fresh,
       )
 
-  pub header-judged : {used filled first-time last-time first-position last-position : ℕ}
-      → used ≡ usedCount l → filled ≡ filledSlots l → first-time ≡ firstTime l → last-time ≡ lastTime l → first-position ≡ firstPosition l → last-position ≡ lastPosition l
-      → ((leb used n && leb filled (used - 1)) && (timeOk first-time && timeOk last-time) && (positionOk first-position && positionOk last-position)
-      && (ltb 1 used || (eqb first-time 0 && eqb last-time 0 && eqb first-position 0 && eqb last-position 0)))
-      ≡ headerSound n l
-  unfolding headerSound untouched
-  header-judged eu ef ea eb ec ed = rw (eu, ef, ea, eb, ec, ed)
+  -- ---- its tests, one after the other: each refuses by itself
+
+  not-sound : (SoundHeader n l → ⊥) → false ≡ headerSound n l
+  not-sound h = not-so (headerSound n l) (λ e. h (header-facts e))
+
+  pub used-above : {used : ℕ} → used ≡ usedCount l → n < used → false ≡ headerSound n l
+  used-above eu h = not-sound (λ s. omega (arith, s .used))
+
+  pub filled-above : {used filled : ℕ} → used ≡ usedCount l → filled ≡ filledSlots l → used - 1 < filled → false ≡ headerSound n l
+  filled-above eu ef h = not-sound (λ s. omega (arith, s .filled))
+
+  pub time-above : {a b m : ℕ} → a ≡ firstTime l → b ≡ lastTime l → m ≡ max a b → 281474976710655 < m → false ≡ headerSound n l
+  time-above ea eb em h = not-sound (λ s. omega (arith, s .first-time, s .last-time))
+
+  pub first-above : {c : ℕ} → c ≡ firstPosition l → 1099511627776 < c → false ≡ headerSound n l
+  first-above ec h = not-sound (λ s. omega (arith, s .first-position))
+
+  pub last-above : {d : ℕ} → d ≡ lastPosition l → 1099511627776 < d → false ≡ headerSound n l
+  last-above ed h = not-sound (λ s. omega (arith, s .last-position))
+
+  -- all have passed
+  module _ {used filled a b m c d : ℕ} (eu : used ≡ usedCount l) (ef : filled ≡ filledSlots l) (ea : a ≡ firstTime l) (eb : b ≡ lastTime l) (em : m ≡ max a b) (ec : c ≡ firstPosition l) (ed : d ≡ lastPosition l)
+      (hu : used ≤ n) (hf : filled ≤ used - 1) (ht : m ≤ 281474976710655) (hc : c ≤ 1099511627776) (hd : d ≤ 1099511627776) where
+    left-over : headerSound n l ≡ (ltb 1 used || (eqb a 0 && eqb b 0 && eqb c 0 && eqb d 0))
+    unfolding headerSound untouched
+    left-over =
+        let ha : a ≤ 281474976710655 = omega arith in
+        let hb : b ≤ 281474976710655 = omega arith in
+        rw (← eu, ← ef, ← ea, ← eb, ← ec, ← ed, le-leb _ _ hu, le-leb _ _ hf, le-leb _ _ ha, le-leb _ _ hb, le-leb _ _ hc, le-leb _ _ hd)
+
+    pub has-items : 1 < used → true ≡ headerSound n l
+    has-items h = sym (left-over ∙ rw (lt-ltb 1 used h))
+
+    pub has-none : used ≤ 1 → (eqb a 0 && eqb b 0 && eqb c 0 && eqb d 0) ≡ headerSound n l
+    has-none h = sym (left-over ∙ rw (le-ltb 1 used h))
 
 pub door-sized : DoorSized
 door-sized k n l s h =

@@ -65,25 +65,36 @@ pub fn used_count(index: &[u8]) -> u32
     if u == 0 { 1 } else { u }
 }
 
-// Whether the header is sound.
+// Whether the header is sound: one number after the other, and the two times by the larger of them.
+// So each time stays one load: where only a number's top bytes are asked for, the compiler reads single bytes.
 pub fn header_sound(index: &[u8], item_count: u64) -> bool
     requires { ⌜ 40 ≤ length (now index) ⌝ }
     ensures { λ r. ⌜ r ≡ headerSound «item_count» (now (index .entry)) ⌝ }
 {
     let used = used_count(index);
-    let filled = codec::get_u32(index, FILLED_SLOTS);
+    if item_count < used as u64 {
+        return false;
+    }
+    if used - 1 < codec::get_u32(index, FILLED_SLOTS) {
+        return false;
+    }
     let first_time = codec::get_u64(index, FIRST_TIME);
     let last_time = codec::get_u64(index, LAST_TIME);
+    if TIME_MAX < codec::larger(first_time, last_time) {
+        return false;
+    }
     let first_position = codec::get_u64(index, FIRST_POSITION);
+    if POSITION_MAX < first_position {
+        return false;
+    }
     let last_position = codec::get_u64(index, LAST_POSITION);
-    let counts = (used as u64 <= item_count) & (filled <= used - 1);
-    let times = (first_time <= TIME_MAX) & (last_time <= TIME_MAX);
-    let positions = (first_position <= POSITION_MAX) & (last_position <= POSITION_MAX);
-    let untouched = (first_time == 0)
-        & (last_time == 0)
-        & (first_position == 0)
-        & (last_position == 0);
-    counts & times & positions & ((1 < used) | untouched)
+    if POSITION_MAX < last_position {
+        return false;
+    }
+    if 1 < used {
+        return true;
+    }
+    (first_time == 0) & (last_time == 0) & (first_position == 0) & (last_position == 0)
 }
 
 // The place of a hash's slot.

@@ -97,11 +97,11 @@ pub accepted : (k n : ℕ) (l topic key : List ℕ) (first last most places : �
     → s ≡ sizesOk k n (length l) → not s ≡ false → h ≡ headerSound n l → not h ≡ false
     → fits ≡ queryFits (length topic) (length key) first last most places → HashedIf fits topic key g → not (g .well) ≡ false
     → w ≡ criteriaOf l (g .hash) first last
-    → (0 < k) × (k ≤ 5000000) × (itemAt k (usedCount l) ≤ length l) × (w .base ≤ 281474976710655) × (most ≤ places)
+    → (0 < k) × (k ≤ 5000000) × (itemAt k (usedCount l) ≤ length l) × (w .base ≤ 281474976710655) × (most ≤ places) × (usedCount l ≤ 20000000)
 unfolding queryFits criteriaOf
 accepted k n l topic key first last most places {s} {h} {fits} {g} {w} es a eh b ef eg c ew =
     let f = sizes-facts k n (length l) (sym es ∙ not-false s a) in
     let d = header-facts n l (sym eh ∙ not-false h b) in
     let o = both fits (valid topic && valid key) (sym (eg .is) ∙ not-false (g .well) c) in
     let p = both ((textFits 127 (length topic) && textFits 32767 (length key)) && (leb first last && timeOk last)) (leb most places) (sym ef ∙ o .0) in
-    (f .0 .some, f .0 .most, (let x = f .1 in let y = d .used in omega arith), rw ew (d .first-time), leb-true most places (p .1))
+    (f .0 .some, f .0 .most, (let x = f .1 in let y = d .used in omega arith), rw ew (d .first-time), leb-true most places (p .1), omega (arith, f .0 .few, d .used))

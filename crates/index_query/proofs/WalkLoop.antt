@@ -59,6 +59,7 @@ joined-after n ps ms ps′ w h =
 -- what is found so far and the walk from here are the whole
 pub record Going (index : List ℕ) (k : ℕ) (q : Criteria) (wanted : ℕ) (out₀ out : List ℕ) (before num found read : ℕ) : Type 0 where
   pub room : itemAt k before ≤ length index
+  pub few : before ≤ 20000000
   pub places : wanted ≤ length out
   pub some : 0 < before
   pub within : found ≤ wanted
@@ -69,11 +70,12 @@ pub record Going (index : List ℕ) (k : ℕ) (q : Criteria) (wanted : ℕ) (out
 
 pub begins : (index : List ℕ) (k : ℕ) (q : Criteria) (wanted : ℕ) (out : List ℕ) (before num : ℕ)
     → before ≡ usedCount index → {at : ℕ} → at ≡ slotAt (slotOf k (q .hash)) → num ≡ field big 4 at index
-    → itemAt k (usedCount index) ≤ length index → wanted ≤ length out → Going index k q wanted out out before num 0 0
+    → itemAt k (usedCount index) ≤ length index → usedCount index ≤ 20000000 → wanted ≤ length out → Going index k q wanted out out before num 0 0
 unfolding search joined
-begins index k q wanted out before num hu hs hn room places =
+begins index k q wanted out before num hu hs hn room few places =
     record {
       room = omega arith;
+      few = omega arith;
       places = places;
       some = omega arith;
       within = omega arith;
@@ -147,6 +149,7 @@ module _ (index : List ℕ) (k : ℕ) (q : Criteria) (wanted : ℕ) (out₀ out 
       again-pass h =
           record {
             room = omega arith;
+            few = omega arith;
             places = g .places;
             some = omega arith;
             within = g .within;
@@ -163,6 +166,7 @@ module _ (index : List ℕ) (k : ℕ) (q : Criteria) (wanted : ℕ) (out₀ out 
       again-match h =
           record {
             room = omega arith;
+            few = omega arith;
             places = simp length-set (g .places);
             some = omega arith;
             within = omega arith;

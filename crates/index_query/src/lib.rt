@@ -64,11 +64,14 @@ fn read_item(index: &[u8], slot_count: u64, u: u32) -> Item
 }
 
 // What an item that was read comes to.
-fn judge(criteria: Criteria, item: Item) -> Verdict
-    requires { ⌜ criteria .base ≤ 281474976710655 ⌝ }
+// Its own number is there for the test of its seconds, which it cannot change: the larger of both takes all four bytes of the seconds, in one load.
+fn judge(criteria: Criteria, item: Item, number: u32) -> Verdict
+    requires { ⌜ (criteria .base ≤ 281474976710655) × (number < 2147483648) ⌝ }
     ensures { λ r. ⌜ r ≡ verdictOf criteria item ⌝ }
 {
-    if (2147483648 <= item.seconds) | !(item.position.0 <= POSITION_MAX) {
+    if (2147483648 <= codec::larger(item.seconds as u64, number as u64))
+        | !(item.position.0 <= POSITION_MAX)
+    {
         return Verdict::Damaged;
     }
     let time = criteria.base + 1000 * (item.seconds as u64);
@@ -108,7 +111,7 @@ fn criteria_for(index: &[u8], hash: u32, begin: u64, end: u64) -> Criteria
 
 // The walk from the slot of a hash, newest item first; the positions of matches go to the output's front.
 fn walk_chain(index: &[u8], k: u64, criteria: Criteria, wanted: usize, out: &mut [u64]) -> Queried
-    requires { ⌜ (0 < k) × (k ≤ 5000000) × (itemAt k (usedCount (now index)) ≤ length (now index)) × (criteria .base ≤ 281474976710655) × (wanted ≤ length (now out)) ⌝ }
+    requires { ⌜ (0 < k) × (k ≤ 5000000) × (itemAt k (usedCount (now index)) ≤ length (now index)) × (criteria .base ≤ 281474976710655) × (wanted ≤ length (now out)) × (usedCount (now index) ≤ 20000000) ⌝ }
     ensures { λ r. ⌜ record { made = r; out = now (out .exit) } ≡ reported (search k (now (index .entry)) criteria wanted) (now (out .entry)) ⌝ }
 {
     let mut before = index_file::used_count(index);
@@ -127,7 +130,7 @@ fn walk_chain(index: &[u8], k: u64, criteria: Criteria, wanted: usize, out: &mut
         }
         let item = read_item(index, k, number);
         read += 1;
-        let verdict = judge(criteria, item);
+        let verdict = judge(criteria, item, number);
         match verdict {
             Verdict::Damaged => break ended(Answer::ChainBroken, found, read),
             Verdict::Match => {
@@ -166,6 +169,7 @@ fn query_fits(
 }
 
 // The index hash of a query's key, if the query is well-formed: topic and key are UTF-8, and the rest is as it should be.
+// They are lent anew where they are judged: handed on as they came, they would be stored in every call, plain or not.
 fn hash_if(fits: bool, topic: &[u8], key: &[u8]) -> Hashed
     ensures { λ r. ⌜ HashedIf fits (now (topic .entry)) (now (key .entry)) r ⌝ }
 {
@@ -177,7 +181,7 @@ fn hash_if(fits: bool, topic: &[u8], key: &[u8]) -> Hashed
     }
     let plain = utf8::plain(topic) & utf8::plain(key);
     if !plain {
-        if !(utf8::valid(topic) & utf8::valid(key)) {
+        if !(utf8::valid(&topic[..]) & utf8::valid(&key[..])) {
             return Hashed {
                 well: false,
                 hash: 0,

@@ -41,7 +41,7 @@ loop-holds : tie.Need-loop-holds Inv-loop μ-loop
 loop-holds c =
     let u = c .before .before in
     let p = start u .pre in
-    begins _ _ _ _ _ _ _ (u .used-count .ensures) (c .before .slot-place .ensures .place) (c .get-u32 .ensures) (p .2) (p .4)
+    begins _ _ _ _ _ _ _ (u .used-count .ensures) (c .before .slot-place .ensures .place) (c .get-u32 .ensures) (p .2) (p .5) (p .4)
 
 read-item-requires : tie.Need-read-item-requires Inv-loop μ-loop
 read-item-requires c κs = let t = turn (c .before) in (start (counted t) .pre .1, omega (arith, t .loop .inv))
@@ -50,7 +50,10 @@ add-read : tie.Need-add-read Inv-loop μ-loop
 add-read c = let t = turn (c .before .before) in omega (arith, t .loop .inv, start (counted t) .good)
 
 judge-requires : tie.Need-judge-requires Inv-loop μ-loop
-judge-requires c κs = start (counted (turn (c .before .before))) .pre .3
+judge-requires c κs =
+    let b = c .before in
+    let t = turn (b .before) in
+    (start (counted t) .pre .3, omega (arith, t .loop .inv, b .if3 .left))
 
 mul-out : tie.Need-mul-out Inv-loop μ-loop
 mul-out c =
