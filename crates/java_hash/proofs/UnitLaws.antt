@@ -9,8 +9,7 @@ use borrow.Author.Tests.{lt-ltb, le-ltb}
 use Rattle.codec.specs.Choice.{pick}
 use Rattle.utf8.specs.declared.Char.{Char}
 use Rattle.utf8.specs.Utf8.{front, Decoded, unitsOf, units, valid, Known, plain}
-use Rattle.utf8.specs.Inner.{SizeAt}
-use Rattle.utf8.proofs.Texts.{valid-turn, whole, units-turn, units-end, units-done, units-ahead, joined-units}
+use Rattle.utf8.proofs.Texts.{valid-turn, decoded-size, whole, units-turn, units-end, units-done, units-ahead, joined-units}
 use Rattle.utf8.proofs.Plains.{plain-units}
 use Rattle.java_hash.specs.Hash.{hashFrom}
 use Rattle.java_hash.specs.Claims.{HashJoined}
@@ -58,9 +57,8 @@ module _ (start : ℕ) (s : List ℕ) {i h : ℕ} (l : Left start s i h) (k : i 
 
     pub left-turn : {r : ℕ} → r ≡ hashFrom h (unitsOf (c .code)) → Left start s (i + c .size) r
     left-turn e =
-        let m : SizeAt s i (c .size) = record { is = ap (λ (x : Char). x .size) (d .is); fits = d .fits } in
         let n : c .size ≡ 0 → ⊥ = λ z. omega (arith, stood) in
-        record { inside = d .fits; text = sym (valid-turn s i k m n) ∙ l .text; hash = hash-turn s i h k d n e ∙ l .hash }
+        record { inside = d .fits; text = sym (valid-turn s i k (decoded-size d) n) ∙ l .text; hash = hash-turn s i h k d n e ∙ l .hash }
 
 -- ---- a text that is known to be of bytes below 128
 

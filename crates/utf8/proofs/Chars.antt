@@ -15,7 +15,7 @@ use Rattle.codec.specs.Choice.{pick}
 use Rattle.codec.proofs.Choices.{both}
 use Rattle.utf8.specs.declared.Char.{Char}
 use Rattle.utf8.specs.Utf8.{range, tail, one, two, three, four, char, none, first, front, Decoded}
-use Rattle.utf8.specs.Inner.{leadingOnes, byOnes, SizeAt}
+use Rattle.utf8.specs.Inner.{leadingOnes, byOnes}
 
 -- ---- leading ones
 
@@ -399,6 +399,18 @@ module _ (a b c d : ℕ) where
   unfolding first pick
   first4 p q r t = rw (p, q, r, t)
 
+-- ---- a row rules out those before it
+
+clash : (t : Bool) → t ≡ false → t ≡ true → ⊥
+clash t p q = let w : _≡_ {A = ℕ} 0 1 = cc in omega arith
+
+two-first : (a b : ℕ) → two a b ≡ true → one a ≡ false
+two-first a b e = below-or a 194 (one a ≡ false) (λ h. absurd (clash (two a b) (two-under a b 0 0 h) e)) (λ h. one-not a b 0 0 (omega arith))
+
+three-first : (a b c : ℕ) → three a b c ≡ true → (one a ≡ false) × (two a b ≡ false)
+three-first a b c e =
+    below-or a 224 ((one a ≡ false) × (two a b ≡ false)) (λ h. absurd (clash (three a b c) (three-under a b c 0 h) e)) (λ h. (one-not a b c 0 (omega arith), two-over a b c 0 h))
+
 -- ---- the last byte of a character is a tail, so it is there
 
 either : (a b c : Bool) → (a ≡ true → c ≡ true) → (b ≡ true → c ≡ true) → a || b ≡ true → c ≡ true
@@ -530,65 +542,20 @@ module _ (s : List ℕ) (at : ℕ) {n a : ℕ} (h : at < length s) (p : 0 < fron
       → Decoded s at (char 4 (((x % 8 * 64 + y % 64) * 64 + z % 64) * 64 + w % 64))
   valid4 n0 n2 n3 i j k l = decoded s at h e f (stood4 _ _ _ _ _ stands n0 n2 n3 (i ∙ at-0 s at) j k l)
 
--- ---- its size alone, by the range of its first byte
+-- ---- its size, by its row: x, y, z are the bytes that the code read
 
-clash : (t : Bool) → t ≡ false → t ≡ true → ⊥
-clash t p q = let w : _≡_ {A = ℕ} 0 1 = cc in omega arith
+module _ (s : List ℕ) (at : ℕ) {x : ℕ} (p : x ≡ getD s at 0) where
+  pub sized1 : x < 128 → front (drop at s) .size ≡ 1
+  sized1 h = let w : getD s at 0 < 128 = rw p at h in rw (front-here s at, first1 (getD s at 0) (getD s (at + 1) 0) (getD s (at + 2) 0) (getD s (at + 3) 0) (one-so (getD s at 0) 0 0 0 w))
 
--- the size of a character of the row, or none
-if-so : (u : Bool) (n code : ℕ) → pick u n 0 ≡ pick u (char n code) none .size
-unfolding pick
-if-so true n code = refl
-if-so false n code = refl
+  module _ {y : ℕ} (q : y ≡ getD s (at + 1) 0) where
+    pub sized2 : {t : Bool} → t ≡ two x y → t ≡ true → front (drop at s) .size ≡ 2
+    sized2 e u =
+        let w : two (getD s at 0) (getD s (at + 1) 0) ≡ true = rw (p, q) at (sym e ∙ u) in
+        rw (front-here s at, first2 _ _ _ _ (two-first _ _ w) w)
 
-module _ (a b c d : ℕ) where
-  -- a size below n is none, where the first byte is of no shorter row
-  short : (n : ℕ) → (a < 128 → n ≤ 1) → (a < 224 → n ≤ 2) → (a < 240 → n ≤ 3) → n ≤ 4 → first a b c d .size < n → 0 ≡ first a b c d .size
-  short n f g h i k = go (kind a b c d)
-    where
-      go : Kind a b c d → 0 ≡ first a b c d .size
-      go (kind1 p) = below-or a 128 (0 ≡ first a b c d .size) (λ m. absurd (omega (arith, f m, rw (first1 a b c d p) at k))) (λ m. absurd (clash (one a) (one-not a b c d m) p))
-      go (kind2 p q) =
-          below-or a 224 (0 ≡ first a b c d .size) (λ m. absurd (omega (arith, g m, rw (first2 a b c d p q) at k))) (λ m. absurd (clash (two a b) (two-over a b c d m) q))
-      go (kind3 p q r) =
-          below-or a 240 (0 ≡ first a b c d .size) (λ m. absurd (omega (arith, h m, rw (first3 a b c d p q r) at k))) (λ m. absurd (clash (three a b c) (three-over a b c d m) r))
-      go (kind4 p q r t) = absurd (omega (arith, rw (first4 a b c d p q r t) at k))
-      go (kind0 e) = rw e
-
-  size1 : a < 128 → 1 ≡ first a b c d .size
-  size1 h = rw (first1 a b c d (one-so a b c d h))
-
-  size2 : (u : Bool) → 128 ≤ a → a < 224 → two a b ≡ u → pick u 2 0 ≡ first a b c d .size
-  unfolding first pick
-  size2 u h k e = rw (one-not a b c d h, three-under a b c d k, four-under a b c d (omega arith), e) (if-so u 2 (a % 32 * 64 + b % 64))
-
-  size3 : (u : Bool) → 224 ≤ a → a < 240 → three a b c ≡ u → pick u 3 0 ≡ first a b c d .size
-  unfolding first pick
-  size3 u h k e = rw (one-not a b c d (omega arith), two-over a b c d h, four-under a b c d k, e) (if-so u 3 ((a % 16 * 64 + b % 64) * 64 + c % 64))
-
-  size4 : (u : Bool) → 240 ≤ a → four a b c d ≡ u → pick u 4 0 ≡ first a b c d .size
-  unfolding first pick
-  size4 u h e = rw (one-not a b c d (omega arith), two-over a b c d (omega arith), three-over a b c d h, e) (if-so u 4 (((a % 8 * 64 + b % 64) * 64 + c % 64) * 64 + d % 64))
-
--- the same at a place: x, y, z, w are the bytes that the code read
-module _ (s : List ℕ) (at : ℕ) (h : at < length s) where
-  sized : {r : ℕ} → r ≡ here s at .size → SizeAt s at r
-  sized e = let p = here-fits s at h in record { is = rw (front-here s at) e; fits = rw e (omega arith) }
-
-  -- fewer than n bytes are left
-  pub sized0 : {x : ℕ} (n : ℕ) → x ≡ getD s at 0 → length s - at < n → (x < 128 → n ≤ 1) → (x < 224 → n ≤ 2) → (x < 240 → n ≤ 3) → n ≤ 4 → SizeAt s at 0
-  sized0 n p k f g i j = let m = here-fits s at h in sized (short (getD s at 0) (getD s (at + 1) 0) (getD s (at + 2) 0) (getD s (at + 3) 0) n (rw p at f) (rw p at g) (rw p at i) j (omega arith))
-
-  pub sized1 : {x : ℕ} → x ≡ getD s at 0 → x < 128 → SizeAt s at 1
-  sized1 p k = sized (size1 _ _ _ _ (rw p at k))
-
-  pub sized2 : {x y : ℕ} {t : Bool} (u : Bool) → x ≡ getD s at 0 → y ≡ getD s (at + 1) 0 → 128 ≤ x → x < 224 → t ≡ two x y → t ≡ u → SizeAt s at (pick u 2 0)
-  sized2 u p q k l t e = sized (size2 _ _ _ _ u (rw p at k) (rw p at l) (rw (p, q) at (sym t ∙ e)))
-
-  pub sized3 : {x y z : ℕ} {t : Bool} (u : Bool) → x ≡ getD s at 0 → y ≡ getD s (at + 1) 0 → z ≡ getD s (at + 2) 0 → 224 ≤ x → x < 240 → t ≡ three x y z → t ≡ u
-      → SizeAt s at (pick u 3 0)
-  sized3 u p q r k l t e = sized (size3 _ _ _ _ u (rw p at k) (rw p at l) (rw (p, q, r) at (sym t ∙ e)))
-
-  pub sized4 : {x y z w : ℕ} {t : Bool} (u : Bool) → x ≡ getD s at 0 → y ≡ getD s (at + 1) 0 → z ≡ getD s (at + 2) 0 → w ≡ getD s (at + 3) 0 → 240 ≤ x → t ≡ four x y z w → t ≡ u
-      → SizeAt s at (pick u 4 0)
-  sized4 u p q r v k t e = sized (size4 _ _ _ _ u (rw p at k) (rw (p, q, r, v) at (sym t ∙ e)))
+    pub sized3 : {z : ℕ} {t : Bool} → z ≡ getD s (at + 2) 0 → t ≡ three x y z → t ≡ true → front (drop at s) .size ≡ 3
+    sized3 r e u =
+        let w : three (getD s at 0) (getD s (at + 1) 0) (getD s (at + 2) 0) ≡ true = rw (p, q, r) at (sym e ∙ u) in
+        let m = three-first _ _ _ w in
+        rw (front-here s at, first3 _ _ _ _ (m .0) (m .1) w)

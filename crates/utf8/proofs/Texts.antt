@@ -1,18 +1,18 @@
 -- Texts: one character more, one byte below 128 more, joined texts. Assumes nothing.
 use Prim.Native.Nat.{ℕ, zero, suc, _+_, _-_, _≤_, _<_}
 use mathlib.Core.Path.{_≡_, refl, ap, sym, _∙_}
-use mathlib.Core.Bool.{true, false}
+use mathlib.Core.Bool.{Bool, true, false}
 use mathlib.Core.List.{List, [], _∷_, _++_, append-assoc}
 use native.Mathlib.Omega.{arith}
-use lib.ListN.{length, drop, length-drop, length-append, drop-of-length-le}
+use lib.ListN.{length, getD, drop, length-drop, length-append, drop-of-length-le}
 use lib.Seq.{drop-drop, drop-append-le}
 use borrow.Author.Tests.{lt-ltb, eq-eqb, ne-eqb}
 use Rattle.codec.specs.Choice.{pick}
 use Rattle.utf8.specs.declared.Char.{Char}
-use Rattle.utf8.specs.Utf8.{char, front, Decoded, unitsOf, validFrom, valid, unitsFrom, units}
-use Rattle.utf8.specs.Inner.{SizeAt}
+use Rattle.utf8.specs.Utf8.{two, three, char, front, Decoded, unitsOf, validFrom, valid, unitsFrom, units}
+use Rattle.utf8.specs.Inner.{Behind}
 use Rattle.utf8.specs.Claims.{JoinedValid, JoinedUnits}
-use Rattle.utf8.proofs.Chars.{one-so, first1, front-fits, front-joined}
+use Rattle.utf8.proofs.Chars.{one-so, first1, front-fits, front-joined, at-0, sized1, sized2, sized3}
 
 -- ---- bytes still to be passed
 
@@ -65,14 +65,11 @@ module _ (s : List ℕ) (i : ℕ) (h : i < length s) where
   rest : 0 < length (drop i s)
   rest = rw length-drop (omega arith)
 
-  pub valid-turn : {r : ℕ} → SizeAt s i r → (r ≡ 0 → ⊥) → valid (drop i s) ≡ valid (drop (i + r) s)
-  valid-turn {r} d n =
-      let e : front (drop i s) .size ≡ r = sym (d .is) in
-      let m : front (drop i s) .size ≡ 0 → ⊥ = rw e n in
-      valid-next (drop i s) rest m ∙ rw (e, drop-drop r i s)
+  pub valid-turn : {n : ℕ} → front (drop i s) .size ≡ n → (n ≡ 0 → ⊥) → valid (drop i s) ≡ valid (drop (i + n) s)
+  valid-turn {n} e m = valid-next (drop i s) rest (rw e m) ∙ rw (e, drop-drop n i s)
 
-  pub valid-end : {r : ℕ} → SizeAt s i r → r ≡ 0 → valid (drop i s) ≡ false
-  valid-end d z = valid-stop (drop i s) rest (sym (d .is) ∙ z)
+  pub valid-end : front (drop i s) .size ≡ 0 → valid (drop i s) ≡ false
+  valid-end e = valid-stop (drop i s) rest e
 
   pub units-turn : {r : Char} → Decoded s i r → (r .size ≡ 0 → ⊥) → units (drop i s) ≡ unitsOf (r .code) ++ units (drop (i + r .size) s)
   units-turn {r} d n =
@@ -90,6 +87,44 @@ valid-done s i h = rw (drop-of-length-le s h)
 pub units-done : (s : List ℕ) (i : ℕ) → length s ≤ i → units (drop i s) ≡ []
 unfolding units unitsFrom
 units-done s i h = rw (drop-of-length-le s h)
+
+-- ---- characters that were passed
+
+pub behind-none : (s : List ℕ) (at : ℕ) → at ≤ length s → Behind s at at
+behind-none s at h = record { on = omega arith; inside = h; left = refl }
+
+pub decoded-size : {s : List ℕ} {i : ℕ} {c : Char} → Decoded s i c → front (drop i s) .size ≡ c .size
+decoded-size d = sym (ap (λ (x : Char). x .size) (d .is))
+
+onward : {s : List ℕ} {at i r : ℕ} → Behind s at i → Behind s i r → Behind s at r
+onward b c = record { on = omega (arith, b .on, c .on); inside = c .inside; left = c .left ∙ b .left }
+
+module _ (s : List ℕ) (at i : ℕ) (b : Behind s at i) where
+  -- one more
+  behind-char : {n : ℕ} → i < length s → i + n ≤ length s → front (drop i s) .size ≡ n → (n ≡ 0 → ⊥) → Behind s at (i + n)
+  behind-char h k e m = onward b (record { on = omega arith; inside = k; left = sym (valid-turn s i h e m) })
+
+  -- one that was decoded, and those like it
+  pub behind-decoded : {c : Char} {r : ℕ} → i < length s → Decoded s i c → (c .size ≡ 0 → ⊥) → Behind s (i + c .size) r → Behind s at r
+  behind-decoded h d m = onward (behind-char h (d .fits) (decoded-size d) m)
+
+  pub behind1 : {x : ℕ} → i < length s → x ≡ getD s i 0 → x < 128 → Behind s at (i + 1)
+  behind1 h p k = behind-char h (omega arith) (sized1 s i p k) (λ e. omega arith)
+
+  module _ {x y : ℕ} {t : Bool} (p : x ≡ getD s (i + 0) 0) (q : y ≡ getD s (i + 1) 0) where
+    pub behind2 : 2 ≤ length s - i → t ≡ two x y → t ≡ true → Behind s at (i + 2)
+    behind2 h e u = behind-char (omega arith) (omega arith) (sized2 s i (p ∙ sym (at-0 s i)) q e u) (λ e. omega arith)
+
+    pub behind3 : {z : ℕ} → z ≡ getD s (i + 2) 0 → 3 ≤ length s - i → t ≡ three x y z → t ≡ true → Behind s at (i + 3)
+    behind3 r h e u = behind-char (omega arith) (omega arith) (sized3 s i (p ∙ sym (at-0 s i)) q r e u) (λ e. omega arith)
+
+-- from the front on: a place where none stands, the end
+module _ (s : List ℕ) (i : ℕ) (b : Behind s 0 i) where
+  pub none-behind : {c : Char} → i < length s → Decoded s i c → c .size ≡ 0 → false ≡ valid s
+  none-behind h d e = sym (valid-end s i h (decoded-size d ∙ e)) ∙ b .left
+
+  pub all-behind : length s ≤ i → true ≡ valid s
+  all-behind h = sym (valid-done s i h) ∙ b .left
 
 -- ---- a byte below 128 in front
 

@@ -6,7 +6,7 @@ use lib.Dec.{ltb, eqb}
 use lib.ListN.{length, drop}
 use Rattle.codec.specs.Choice.{pick}
 use Rattle.utf8.specs.declared.Char.{Char}
-use Rattle.utf8.specs.Utf8.{two, three, four, char, none, front}
+use Rattle.utf8.specs.Utf8.{two, three, four, char, none, valid}
 
 -- document 02, item 2: "The number of leading ones in the first byte", of a byte
 unfoldable pub leadingOnes : ℕ → ℕ
@@ -21,7 +21,8 @@ byOnes n a b c d =
     (pick (eqb n 3) (pick (three a b c) (char 3 ((a % 16 * 64 + b % 64) * 64 + c % 64)) none)
     (pick (eqb n 4) (pick (four a b c d) (char 4 (((a % 8 * 64 + b % 64) * 64 + c % 64) * 64 + d % 64)) none) none)))
 
--- what measuring the character at a place gives
-pub record SizeAt (s : List ℕ) (at r : ℕ) : Type 0 where
-  pub is : r ≡ front (drop at s) .size
-  pub fits : at + r ≤ length s
+-- only characters stand from one place up to another: what is left behind them is UTF-8 if what is left before them is
+pub record Behind (s : List ℕ) (at r : ℕ) : Type 0 where
+  pub on : at ≤ r
+  pub inside : r ≤ length s
+  pub left : valid (drop r s) ≡ valid (drop at s)

@@ -6,7 +6,7 @@ ghost use lib.ListN.{length, getD, drop};
 ghost use Rattle.codec.specs.Choice.{pick};
 ghost use Rattle.utf8.specs.Utf8.{tail, two, three, four, char, none, front, Decoded};
 ghost use Rattle.utf8.specs.Utf8 as utf;
-ghost use Rattle.utf8.specs.Inner.{leadingOnes, byOnes, SizeAt};
+ghost use Rattle.utf8.specs.Inner.{leadingOnes, byOnes, Behind};
 
 // A character: how many bytes it takes, 0 where none stands, and its number.
 pub struct Char {
@@ -171,35 +171,66 @@ pub fn plain(s: &[u8]) -> bool
     (bits | word) & 0x8080808080808080 == 0
 }
 
-// How many bytes the character at a place takes, 0 where none stands: for who needs no number, quicker than `decode`.
-fn size_at(s: &[u8], at: usize) -> usize
-    requires { ⌜ at < length (now s) ⌝ }
-    ensures { λ r. ⌜ SizeAt (now (s .entry)) at r ⌝ }
+// Behind the characters of one byte that stand from a place on.
+fn past_ones(s: &[u8], at: usize) -> usize
+    requires { ⌜ at ≤ length (now s) ⌝ }
+    ensures { λ r. ⌜ Behind (now (s .entry)) at r ⌝ }
 {
-    let a = codec::wide(s[at]) as u32;
-    if a < 128 {
-        return 1;
+    let mut i = at;
+    while i < s.len() {
+        if 128 <= s[i] {
+            break;
+        }
+        i += 1;
     }
-    let room = s.len() - at;
-    if room < 2 {
-        return 0;
+    i
+}
+
+// Behind those of two bytes.
+fn past_twos(s: &[u8], at: usize) -> usize
+    requires { ⌜ at ≤ length (now s) ⌝ }
+    ensures { λ r. ⌜ Behind (now (s .entry)) at r ⌝ }
+{
+    let mut i = at;
+    while 2 <= s.len() - i {
+        if !is_two(byte(s, i, 0), byte(s, i, 1)) {
+            break;
+        }
+        i += 2;
     }
-    let b = codec::wide(s[at + 1]) as u32;
-    if a < 224 {
-        return if is_two(a, b) { 2 } else { 0 };
+    i
+}
+
+// Behind those of three bytes.
+fn past_threes(s: &[u8], at: usize) -> usize
+    requires { ⌜ at ≤ length (now s) ⌝ }
+    ensures { λ r. ⌜ Behind (now (s .entry)) at r ⌝ }
+{
+    let mut i = at;
+    while 3 <= s.len() - i {
+        if !is_three(byte(s, i, 0), byte(s, i, 1), byte(s, i, 2)) {
+            break;
+        }
+        i += 3;
     }
-    if room < 3 {
-        return 0;
+    i
+}
+
+// Behind those of so many bytes: text is mostly of one script, and what the first byte of each tells is asked of the first alone.
+fn past_like(s: &[u8], at: usize, size: usize) -> usize
+    requires { ⌜ at ≤ length (now s) ⌝ }
+    ensures { λ r. ⌜ Behind (now (s .entry)) at r ⌝ }
+{
+    if size == 1 {
+        return past_ones(s, at);
     }
-    let c = codec::wide(s[at + 2]) as u32;
-    if a < 240 {
-        return if is_three(a, b, c) { 3 } else { 0 };
+    if size == 2 {
+        return past_twos(s, at);
     }
-    if room < 4 {
-        return 0;
+    if size == 3 {
+        return past_threes(s, at);
     }
-    let d = codec::wide(s[at + 3]) as u32;
-    if is_four(a, b, c, d) { 4 } else { 0 }
+    at
 }
 
 // Whether a string of bytes that are not all below 128 is UTF-8, character by character.
@@ -208,11 +239,11 @@ fn valid_chars(s: &[u8]) -> bool
 {
     let mut i: usize = 0;
     while i < s.len() {
-        let size = size_at(s, i);
-        if size == 0 {
+        let found = decode(s, i);
+        if found.size == 0 {
             return false;
         }
-        i += size;
+        i = past_like(s, i + found.size, found.size);
     }
     true
 }
