@@ -34,9 +34,9 @@ sources := crates.txt $(shell find crates -name '*.rt' -o -name '*.antt')
 .PHONY: all tour install example compare texts mutants bench interface cli
 all: $(archive)
 
-# Five objects, each proved: dispatch and queue reading; the query; append, record reading and the lister's text; the report of a stretch; the
-# functions that tell what a record makes. Apart, they leave the compiler free to take what dispatch and the report read a record with (its judge, the
-# scan of its properties, the hash) into their loops.
+# Five objects, each proved: dispatch and queue reading; the query; append and record reading; the report of a stretch; the small functions, which tell
+# what a record makes, with the lister's text. Apart, they leave the compiler free to take what dispatch, the report and record reading judge a record
+# with (the rules, the scan of its properties, the hash) into them.
 exported := swistopal swistopal_index swistopal_log swistopal_stretch swistopal_facts
 $(built_lib_dir)/libswistopal.a: $(sources)
 	for crate in $(exported); do rt staticlib $$crate || exit 1; done

@@ -1,7 +1,6 @@
 -- `utf8::past_ones` meets its contract: only characters were passed. Assumes nothing.
 use Prim.Native.Nat.{_-_}
 use mathlib.Core.Path.{refl}
-use native.Mathlib.Omega.{arith}
 use lib.ListN.{length}
 use Rattle.utf8.specs.Inner.{Behind}
 use Rattle.utf8.proofs.Texts.{behind-none, behind1}
