@@ -21,7 +21,7 @@ byOnes n a b c d =
     (pick (eqb n 3) (pick (three a b c) (char 3 ((a % 16 * 64 + b % 64) * 64 + c % 64)) none)
     (pick (eqb n 4) (pick (four a b c d) (char 4 (((a % 8 * 64 + b % 64) * 64 + c % 64) * 64 + d % 64)) none) none)))
 
--- only characters stand from one place up to another: what is left behind them is UTF-8 if what is left before them is
+-- nothing but characters was passed between two places: what is left from the second is UTF-8 exactly if what is left from the first is
 pub record Behind (s : List ℕ) (at r : ℕ) : Type 0 where
   pub on : at ≤ r
   pub inside : r ≤ length s
