@@ -1,4 +1,6 @@
 // Numbers that must not be mixed, a run of bytes, and the answers of every operation.
+#![tactic(auto)]
+
 ghost use Rattle.std.specs.Prelude.{◌≡◌};
 ghost use Rattle.units.specs.Answers.{number_of, answer_of};
 

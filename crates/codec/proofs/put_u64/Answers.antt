@@ -1,0 +1,9 @@
+-- `codec::put_u64` meets its contract: the bytes turned round, from the lowest on. Assumes nothing.
+use mathlib.Core.Path.{◌∙◌, ap}
+use Rattle.codec.specs.Bytes.{overwrite}
+use Rattle.codec.proofs.Loops.{turned_eight}
+use Rattle.codec.proofs.put_u64.Goals as goal
+
+pub returns : goal.returns
+returns c =
+    c.put_le.ensures ∙ ap (overwrite _ _) (turned_eight _ c.turned.ensures.0 c.turned-2.ensures.0)
