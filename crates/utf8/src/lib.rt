@@ -1,4 +1,5 @@
 // UTF-8 text: whether a string of bytes is one (RFC 3629), and the character at a place.
+#![tactic(auto)]
 
 ghost use Rattle.std.specs.Prelude.{◌≡◌, ◌+◌, ◌≤◌, ◌<◌, length, get_or, drop};
 ghost use Rattle.codec.specs.Choice.{pick};

@@ -1,0 +1,11 @@
+-- `utf8::valid_chars` meets its contract: only characters were passed. Assumes nothing.
+use Prim.Native.Nat.{◌-◌}
+use lib.ListN.{length}
+use Rattle.utf8.specs.Inner.{Behind}
+use Rattle.utf8.proofs.valid_chars.Given as goal
+
+abbrev pub invariant-loop-i : goal.invariant-loop-i
+invariant-loop-i l = Behind l.s 0 l.i
+
+abbrev pub decreases-loop-i : goal.decreases-loop-i
+decreases-loop-i l = length l.s - l.i
