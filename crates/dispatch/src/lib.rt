@@ -17,7 +17,7 @@ use dispatch_step::{Progress, Sizes};
 use units::{Answer, LogPosition};
 
 // How a call ends: the answer, the steps done, and the progress behind them.
-#[derive(Drop)]
+#[derive(Clone, Copy)]
 pub struct Dispatched {
     pub answer: Answer,
     pub steps: u64,
@@ -25,7 +25,7 @@ pub struct Dispatched {
 }
 
 // How a run ends: as a call does, or before a record whose items the lent list has no places for.
-#[derive(Drop)]
+#[derive(Clone, Copy)]
 struct Ran {
     ended: bool,
     call: Dispatched,

@@ -14,7 +14,7 @@ use dispatch_step::{Filed, Progress, Sizes};
 use units::{Answer, LogPosition, QueueOffset};
 
 // What was read ahead: so many records with so many items, and what stands behind them, as far as it was looked at.
-#[derive(Drop)]
+#[derive(Clone, Copy)]
 struct Batch {
     records: usize,
     items: usize,
@@ -23,7 +23,7 @@ struct Batch {
 
 // What stands behind the records that were read ahead: not looked at, a stop, a blank of so many bytes, a record with more items than the list
 // has places left.
-#[derive(Drop)]
+#[derive(Clone, Copy)]
 enum Behind {
     Unread,
     Stop(Answer),
@@ -32,7 +32,7 @@ enum Behind {
 }
 
 // Why an advance ends: so many steps are made, a rule stops the next one, or the next record has more items than the list has places.
-#[derive(Drop)]
+#[derive(Clone, Copy)]
 pub enum Ended {
     Going,
     Stopped(Answer),
@@ -40,7 +40,7 @@ pub enum Ended {
 }
 
 // The progress behind the steps of an advance, their number, and why it ends.
-#[derive(Drop)]
+#[derive(Clone, Copy)]
 pub struct Advanced {
     pub progress: Progress,
     pub steps: u64,

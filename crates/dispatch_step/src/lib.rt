@@ -9,7 +9,7 @@ use index_file::IndexSizes;
 use units::{Answer, LogPosition};
 
 // What stays the same between calls: the log's geometry, the entries of a queue, the slots and items of the index.
-#[derive(Drop)]
+#[derive(Clone, Copy)]
 pub struct Sizes {
     pub geometry: Geometry,
     pub queue_entries: u64,
@@ -17,13 +17,13 @@ pub struct Sizes {
 }
 
 // What a call hands to the next one, but for the counts, which are lent beside it.
-#[derive(Drop)]
+#[derive(Clone, Copy)]
 pub struct Progress {
     pub position: LogPosition,
 }
 
 // What filing comes to: the progress behind the record, or a stop.
-#[derive(Drop)]
+#[derive(Clone, Copy)]
 pub enum Filed {
     Moved(Progress),
     Stopped(Answer),

@@ -10,14 +10,14 @@ ghost use Rattle.index_file.specs.Inner.{seconds_after, with_header, Entered};
 use units::{Answer, LogPosition};
 
 // The number of slots and of items that an index has room for: K and N.
-#[derive(Drop)]
+#[derive(Clone, Copy)]
 pub struct IndexSizes {
     pub slot_count: u64,
     pub item_count: u64,
 }
 
 // An item as stored: each number as its bytes read without a sign.
-#[derive(Drop)]
+#[derive(Clone, Copy)]
 pub struct Item {
     pub hash: u32,
     pub position: LogPosition,

@@ -9,7 +9,7 @@ use index_file::{IndexSizes, Item};
 use units::{Answer, LogPosition};
 
 // What a query looks for, and the header's first time, on which item times rest.
-#[derive(Drop)]
+#[derive(Clone, Copy)]
 pub struct Criteria {
     pub hash: u32,
     pub begin: u64,
@@ -18,7 +18,7 @@ pub struct Criteria {
 }
 
 // What reading an item comes to.
-#[derive(Drop)]
+#[derive(Clone, Copy)]
 enum Verdict {
     Damaged,
     Match,
@@ -27,14 +27,14 @@ enum Verdict {
 }
 
 // Whether a query is well-formed, and its key's index hash.
-#[derive(Drop)]
+#[derive(Clone, Copy)]
 struct Hashed {
     well: bool,
     hash: u32,
 }
 
 // How a query ends: the positions written and the items read.
-#[derive(Drop)]
+#[derive(Clone, Copy)]
 pub struct Queried {
     pub answer: Answer,
     pub found: u64,

@@ -5,22 +5,22 @@ ghost use Rattle.std.specs.Prelude.{◌≡◌};
 ghost use Rattle.units.specs.Answers.{number_of, answer_of};
 
 // A place in the commit log.
-#[derive(Drop)]
+#[derive(Clone, Copy)]
 pub struct LogPosition(pub u64);
 
 // A place in a consume queue.
-#[derive(Drop)]
+#[derive(Clone, Copy)]
 pub struct QueueOffset(pub u64);
 
 // A run of bytes: where it begins, how long it is.
-#[derive(Drop)]
+#[derive(Clone, Copy)]
 pub struct Place {
     pub at: usize,
     pub len: usize,
 }
 
 // What an operation answers, in the order of document 01's table.
-#[derive(Drop)]
+#[derive(Clone, Copy)]
 pub enum Answer {
     // done, caught up, chain ended or enough found
     Done,
@@ -61,7 +61,7 @@ pub enum Answer {
 }
 
 // The answer that a number stands for.
-#[derive(Drop)]
+#[derive(Clone, Copy)]
 pub enum Numbered {
     Known(Answer),
     Unknown,

@@ -1,0 +1,11 @@
+-- `java_hash::hash_bytes` meets its contract: before each turn h is the hash continued over the first i bytes. Assumes nothing.
+use Rattle.std.proofs.Common.{◌≡◌, ◌-◌, ◌≤◌, length, take, arith, rules}
+use Rattle.java_hash.specs.Hash.{hash_from}
+use Rattle.java_hash.proofs.HashLaws.{turn0, turn8, hash_parts}
+use Rattle.java_hash.proofs.hash_bytes.Given as goal
+
+abbrev pub invariant-loop-i : goal.invariant-loop-i
+invariant-loop-i l = (l.i ≤ length l.s) × (l.h ≡ hash_from l.start (take l.i l.s))
+
+abbrev pub decreases-loop-i : goal.decreases-loop-i
+decreases-loop-i l = length l.s - l.i
