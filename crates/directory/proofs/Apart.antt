@@ -1,5 +1,5 @@
 -- One row behind others that differ from it. Assumes nothing.
-use Prim.Native.Nat.{ℕ, zero, suc, ◌+◌, ◌-◌, ◌<◌}
+use Prim.Native.Nat.{ℕ, zero, suc, ◌+◌, ◌-◌}
 use mathlib.Core.Path.{◌≡◌, refl, sym}
 use mathlib.Core.Bool.{Bool, true, false, not}
 use mathlib.Core.List.{List, [], ◌∷◌, ◌++◌}
@@ -8,7 +8,6 @@ use lib.ListN.{length, length-append, get_or-append}
 use lib.Seq.{get_or-append_seam}
 use Rattle.codec.specs.Choice.{pick}
 use Rattle.codec.proofs.Choices.{both}
-use Rattle.directory.specs.declared.Located.{Located}
 use Rattle.directory.specs.declared.Located.TheVariants.{Unlisted, Row}
 use Rattle.directory.specs.Claims.{Fits}
 use Rattle.directory.specs.Directory.{Queue, names, row_from, listed, distinct}

@@ -1,4 +1,6 @@
 // The directory of queues: judged once, then asked for the row of a topic and id.
+#![tactic(auto)]
+
 ghost use Rattle.std.specs.Prelude.{◌≡◌, ◌≤◌, ◌<◌, length, drop};
 ghost use Rattle.directory.specs.Directory.{row_length, row_queue, names, row_from, queues, row_count, row_of};
 ghost use Rattle.directory.specs.Inner.{row_size, rows_of, InRows, Sized, bucket_of};
