@@ -11,7 +11,6 @@ use Rattle.units.specs.declared.Place.{Place}
 use Rattle.utf8.specs.Utf8.{valid, plain, Known}
 use Rattle.utf8.proofs.Plains.{plain_part}
 use Rattle.properties.specs.declared.Found.{Found}
-use Rattle.properties.specs.declared.Scanned.{Scanned}
 use Rattle.properties.specs.declared.Text.{Text}
 use Rattle.properties.specs.Parts.{bytes_at}
 use Rattle.properties.specs.Finder.{scanned, found_bytes}
