@@ -1,12 +1,12 @@
 -- Sizes and header, judged by the tests of their functions. Assumes nothing.
 use Prim.Native.Nat.{ℕ, ◌+◌, ◌*◌, ◌-◌, ◌<◌, ◌≤◌, max}
 use mathlib.Core.Path.{◌≡◌, sym, ◌∙◌}
-use mathlib.Core.Bool.{Bool, true, false, not, ◌&&◌, ◌||◌}
+use mathlib.Core.Bool.{Bool, true, false, ◌&&◌, ◌||◌}
 use mathlib.Core.List.{List}
 use native.Mathlib.Omega.{arith}
 use lib.Dec.{leb, ltb, eqb}
 use lib.ListN.{length}
-use borrow.Author.Tests.{leb-true, eqb-true, le-leb, lt-ltb, le-ltb, not-true, not-false}
+use borrow.Author.Tests.{leb-true, eqb-true, le-leb, lt-ltb, le-ltb}
 use Rattle.codec.proofs.Choices.{both, not_so}
 use Rattle.index_file.specs.Index.{used_count, filled_slots, first_time, last_time, first_position, last_position, time_ok, position_ok, untouched, sizes_ok, header_sound}
 use Rattle.index_file.specs.Claims.{DoorSized}
@@ -30,23 +30,23 @@ module _ (k n : ℕ) where
       let c = both (leb 1 k) (leb k 5000000) b.0 in
       record { some = leb-true 1 k c.0; most = leb-true k 5000000 c.1; two = leb-true 2 n b.1; few = leb-true n 20000000 a.1 }
 
-  pub sizes_in_is : not limits ≡ false → SizesIn k n
-  sizes_in_is h = limits_in (not-false limits h)
+  pub sizes_in_is : limits ≡ true → SizesIn k n
+  sizes_in_is h = limits_in h
 
-  pub sizes_out : (len : ℕ) → not limits ≡ true → false ≡ sizes_ok k n len
+  pub sizes_out : (len : ℕ) → limits ≡ false → false ≡ sizes_ok k n len
   unfolding sizes_ok
-  sizes_out len h = rw (not-true limits h)
+  sizes_out len h = rw h
 
-  pub sizes_judged : (len : ℕ) → not limits ≡ false → eqb len (40 + 4 * k + 20 * n) ≡ sizes_ok k n len
+  pub sizes_judged : (len : ℕ) → limits ≡ true → eqb len (40 + 4 * k + 20 * n) ≡ sizes_ok k n len
   unfolding sizes_ok
-  sizes_judged len h = rw (not-false limits h)
+  sizes_judged len h = rw h
 
   pub sizes_facts : (len : ℕ) → sizes_ok k n len ≡ true → SizesIn k n × (len ≡ 40 + 4 * k + 20 * n)
   unfolding sizes_ok
   sizes_facts len e = let a = both limits (eqb len (40 + 4 * k + 20 * n)) e in (limits_in a.0, eqb-true len (40 + 4 * k + 20 * n) a.1)
 
-pub sizes_long : {s : Bool} (k n len : ℕ) → s ≡ sizes_ok k n len → not s ≡ false → 40 ≤ len
-sizes_long {s} k n len e h = let f = sizes_facts k n len (sym e ∙ not-false s h) in let x = f.1 in omega arith
+pub sizes_long : {s : Bool} (k n len : ℕ) → s ≡ sizes_ok k n len → s ≡ true → 40 ≤ len
+sizes_long {s} k n len e h = let f = sizes_facts k n len (sym e ∙ h) in let x = f.1 in omega arith
 
 -- ---- the header
 

@@ -1,4 +1,6 @@
 // The index file: its header, slots and items; a record's items checked and put.
+#![tactic(auto)]
+
 ghost use Rattle.std.specs.Prelude.{◌≡◌, ◌+◌, ◌*◌, ◌<◌, ◌≤◌, true, false, length};
 ghost use Rattle.codec.specs.Bytes.{overwrite};
 ghost use Rattle.java_hash.specs.Hash.{slot_of};

@@ -1,4 +1,6 @@
 // The query of an index file by key and time: the walk along a slot's chain.
+#![tactic(auto)]
+
 ghost use Rattle.std.specs.Prelude.{◌≡◌, ◌+◌, ◌<◌, ◌≤◌, length};
 ghost use Rattle.index_file.specs.Index.{used_count, item_at, item_of};
 ghost use Rattle.index_query.specs.Walk.{criteria_of, search};
