@@ -59,7 +59,7 @@ module _ (k n : ℕ) (l : List ℕ) (ps : List Put) (b : Built k n l ps) where
     search_finds rise wanted =
         let es = keep (in_slot k (slot_of k hash)) (items k ps) in
         let f = list_found criteria wanted es (rise_keep (in_slot k (slot_of k hash)) (items k ps) rise)
-        (all_keep (λ (e : Item). damaged e ≡ false) (in_slot k (slot_of k hash)) (items k ps) (linked_whole _ k (items k ps) held.chain)) in
+        (all_keep (λ (e : Item). damaged e ≡ false) (in_slot k (slot_of k hash)) (items k ps) (linked_whole (item_of k (build k l ps)) k (items k ps) held.chain)) in
         rw (search_list wanted)
         (f.0, f.1 ∙ ap (λ (x : List Item). take wanted (map (λ (e : Item). e.position.0) x)) (keep_keep (hit criteria) (in_slot k (slot_of k hash)) (items k ps) (hit_slot k criteria)))
 

@@ -1,6 +1,6 @@
 -- What holds of an index that puts have built from empty. Assumes nothing.
 use Prim.Native.Nat.{ℕ, zero, suc, ◌+◌, ◌*◌, ◌-◌, ◌/◌, ◌≤◌, ◌<◌, min, zero-le}
-use mathlib.Core.Path.{◌≡◌, refl, sym, ap, ◌∙◌}
+use mathlib.Core.Path.{◌≡◌, refl, sym, ap, subst, ◌∙◌}
 use mathlib.Core.Bool.{Bool, true, false}
 use mathlib.Core.List.{List, [], ◌∷◌}
 use mathlib.Core.Logic.{⊎_elim}
@@ -250,13 +250,18 @@ seconds_mono first a b h = go (eqb first 0)
     go true = omega arith
     go false = omega arith
 
+oldest_more : (p r : Put) (ps : List Put) → oldest (p ∷ (r ∷ ps)) ≡ oldest (r ∷ ps)
+unfolding oldest pick
+oldest_more p r ps = rw (eqb-suc-zero (length ps)) refl
+
 -- no item's seconds are above those of a time that is not below its own
 seconds_top : (k t : ℕ) (ps : List Put) → All (λ (o : Put). o.time ≤ t) ps → All (λ (o : Item). o.seconds ≤ seconds_of (oldest ps) t) (items k ps)
 unfolding items oldest seconds_of pick
 seconds_top k t [] a = tt
 seconds_top k t (p ∷ []) a = (zero-le, tt)
 seconds_top k t (p ∷ (r ∷ ps)) a =
-    rw (eqb-suc-zero (length ps)) (seconds_mono (oldest (r ∷ ps)) p.time t a.0, seconds_top k t (r ∷ ps) a.1)
+    subst (λ (first : ℕ). All (λ (o : Item). o.seconds ≤ seconds_of first t) (items k (p ∷ (r ∷ ps)))) (sym (oldest_more p r ps))
+    (seconds_mono (oldest (r ∷ ps)) p.time t a.0, seconds_top k t (r ∷ ps) a.1)
 
 pub rising_times : RisingTimes
 unfolding items
