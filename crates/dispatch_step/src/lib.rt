@@ -1,4 +1,6 @@
 // One dispatch step: what stands at the position is read as a request, and the request is filed.
+#![tactic(auto)]
+
 ghost use Rattle.std.specs.Prelude.{◌≡◌};
 ghost use Rattle.dispatch_step.specs.Step.{state_of};
 ghost use Rattle.dispatch_step.specs.Filing.{Fileable, Files};
