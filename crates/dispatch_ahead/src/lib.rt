@@ -1,4 +1,6 @@
 // Records read ahead as requests and filed one by one: the steps of an advance.
+#![tactic(auto)]
+
 ghost use Rattle.std.specs.Prelude.{◌≡◌, ℕ, ◌+◌, ◌*◌, ◌≤◌, ◌<◌, length};
 ghost use Rattle.codec.specs.Choice.{pick};
 ghost use Rattle.commit_log.specs.Door.{GeometryFits, Within};
