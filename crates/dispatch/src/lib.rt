@@ -1,4 +1,6 @@
 // Dispatch: the door, and the steps of a call under its budget.
+#![tactic(auto)]
+
 ghost use Rattle.std.specs.Prelude.{◌≡◌, ◌+◌, ◌<◌, ◌≤◌, length};
 ghost use Rattle.commit_log.specs.Door.{GeometryFits};
 ghost use Rattle.machine.specs.Steps.{run};
