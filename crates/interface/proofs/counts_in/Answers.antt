@@ -1,7 +1,6 @@
 -- `interface::counts_in` meets its contract: each number is the one that the definition names. Assumes nothing.
 use mathlib.Core.Path.{refl}
 use Rattle.interface.specs.Structs.{counts_in, numbers_from}
-use borrow.Author.Rules.{rules}
 use Rattle.interface.proofs.counts_in.Goals as goal
 
 pub returns : goal.returns

@@ -1,7 +1,6 @@
 -- `interface::progress_in` meets its contract: each number is the one that the definition names. Assumes nothing.
 use mathlib.Core.Path.{refl}
 use Rattle.interface.specs.Structs.{progress_in}
-use borrow.Author.Rules.{rules}
 use Rattle.interface.proofs.progress_in.Goals as goal
 
 pub returns : goal.returns

@@ -1,7 +1,6 @@
 -- `interface::queue_entries_in` meets its contract: each number is the one that the definition names. Assumes nothing.
 use mathlib.Core.Path.{refl}
 use Rattle.interface.specs.Structs.{queue_entries_in}
-use borrow.Author.Rules.{rules}
 use Rattle.interface.proofs.queue_entries_in.Goals as goal
 
 pub returns : goal.returns

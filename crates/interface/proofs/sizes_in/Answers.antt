@@ -1,6 +1,5 @@
 -- `interface::sizes_in` meets its contract: each number is the one that the definition names. Assumes nothing.
 use Rattle.interface.proofs.SizesMade.{sizes_made}
-use borrow.Author.Rules.{rules}
 use Rattle.interface.proofs.sizes_in.Goals as goal
 
 pub returns : goal.returns
