@@ -1,5 +1,7 @@
 // What other programs link: dispatch and queue reading of include/swistopal.h. Each calls the function of its layer and gives that answer's
 // number. A struct of the header is a lent array here.
+#![tactic(auto)]
+
 ghost use Rattle.std.specs.Prelude.{◌≡◌};
 ghost use Rattle.swistopal.specs.Interface.{lent, call_in, Dispatches, tag_asked, read_queue};
 

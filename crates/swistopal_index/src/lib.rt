@@ -1,5 +1,7 @@
 // What other programs link of the index: the query of include/swistopal.h. It is an object of its own, so that what dispatch hashes keys with has no
 // second caller there and is taken into its loop.
+#![tactic(auto)]
+
 ghost use Rattle.std.specs.Prelude.{◌≡◌};
 ghost use Rattle.swistopal_index.specs.Index.{query};
 

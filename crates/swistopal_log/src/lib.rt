@@ -1,5 +1,7 @@
 // What other programs link of the log alone: append and record reading of include/swistopal.h. They are an object of their own, so that what dispatch
 // reads a record with has no second caller there and is taken into its loop.
+#![tactic(auto)]
+
 ghost use Rattle.std.specs.Prelude.{◌≡◌};
 ghost use Rattle.record_writer.specs.Encode.{parts_of};
 ghost use Rattle.swistopal_log.specs.Log.{Appends, read_record};

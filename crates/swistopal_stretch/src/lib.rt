@@ -1,5 +1,7 @@
 // What a stretch of the log holds, for programs that link it: further operations of include/swistopal.h. They are an archive of their own, so that
 // neither their functions nor dispatch's have a second caller, which would keep the compiler from taking them into its loops.
+#![tactic(auto)]
+
 ghost use Rattle.std.specs.Prelude.{◌≡◌};
 ghost use Rattle.swistopal_stretch.specs.Reported.{report};
 
