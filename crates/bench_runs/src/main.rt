@@ -2,12 +2,15 @@
 // 4 items. Each of the first three lines, with two records stored at 10,000 and 10,999: from time, the second item's link, then the answer's number,
 // the positions found and the items read. The other two, with one: its system flag, then dispatch's answer, its steps, the queue's entries and the
 // used count.
+#![tactic(auto)]
+
 ghost use Rattle.std.specs.Prelude.{◌+◌, ◌≤◌};
 
 use commit_log::Geometry;
 use dispatch::Dispatched;
 use dispatch_step::{Progress, Sizes};
 use index_file::IndexSizes;
+use std::io;
 use units::LogPosition;
 
 const GEOMETRY: Geometry = Geometry {
@@ -26,11 +29,6 @@ const HOST: [u8; 8] = [0; 8];
 const USED: usize = 36;
 
 const LINK: usize = 104;
-
-fn print(n: u64, after: &[u8]) {
-    io::print_decimal(1, n);
-    io::write_all(1, after);
-}
 
 // The number in four bytes of the index.
 fn number_at(index: &[u8; 128], at: usize) -> u64
@@ -93,15 +91,15 @@ fn file(
 }
 
 // The query from this time on.
-fn ask(index: &[u8; 128], from: u64) {
+fn ask(rt: &HostRuntime, index: &[u8; 128], from: u64) -> io::Result<()> {
     let mut out = [0u64; 5];
     let made = index_query::query(index, INDEX, b"T", b"k", from, 20000, 5, &mut out);
     let answer = made.answer;
-    print(from, b" ");
-    print(number_at(index, LINK), b" ");
-    print(answer.number() as u64, b" ");
-    print(made.found, b" ");
-    print(made.read, b"\n");
+    let number = answer.number();
+    let link = number_at(index, LINK);
+    let found = made.found;
+    let read = made.read;
+    println!(rt; "{from} {link} {number} {found} {read}")
 }
 
 fn two_records(index: &mut [u8; 128]) {
@@ -116,27 +114,27 @@ fn link_second(index: &mut [u8; 128], item: u32) {
     codec::put_u32(index, LINK, item);
 }
 
-fn one_record(system_flag: u64) {
+fn one_record(rt: &HostRuntime, system_flag: u64) -> io::Result<()> {
     let mut log = [0u8; 1024];
     let mut counts = [0u64; 16];
     let mut index = [0u8; 128];
     let end = append(&mut log, LogPosition(0), 0, system_flag, 10000);
     let made = file(&log, end, &mut counts, &mut index);
     let answer = made.answer;
-    print(system_flag, b" ");
-    print(answer.number() as u64, b" ");
-    print(made.steps, b" ");
-    print(counts[0], b" ");
-    print(number_at(&index, USED), b"\n");
+    let number = answer.number();
+    let steps = made.steps;
+    let entries = counts[0];
+    let used = number_at(&index, USED);
+    println!(rt; "{system_flag} {number} {steps} {entries} {used}")
 }
 
-fn main() {
+fn main(rt: HostRuntime) -> io::Result<()> {
     let mut index = [0u8; 128];
     two_records(&mut index);
-    ask(&index, 10000);
-    ask(&index, 10500);
+    ask(&rt, &index, 10000)?;
+    ask(&rt, &index, 10500)?;
     link_second(&mut index, 2);
-    ask(&index, 10000);
-    one_record(0);
-    one_record(4);
+    ask(&rt, &index, 10000)?;
+    one_record(&rt, 0)?;
+    one_record(&rt, 4)
 }
