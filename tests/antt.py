@@ -90,7 +90,7 @@ def named(path, word):
     """The whole path of a word of the file, as (crate, path below specs): of a crate's own specs and of another's alike. None if it is no crate's specs'."""
     head, dot, rest = word.removeprefix("package.").partition(".")
     whole = uses(path).get(head, head) + dot + rest
-    inside = re.fullmatch(r"Rattle·(\w+?)(?:·specs\.specs|\.specs)\.(.+)", whole)
+    inside = re.fullmatch(r"Rattle\.(\w+)\.specs\.(.+)", whole)
     return inside.groups() if inside else None
 
 

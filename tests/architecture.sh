@@ -13,7 +13,7 @@ import antt, functools, glob, os, re, sys
 PAGE = "docs/ARCHITECTURE.md"
 # What the buyer's demands 2 and 3 come to.
 DEMANDS = [("commit_log", "ReadsBack"), ("commit_log", "AppendsAgain"), ("index_laws", "QueryExact"), ("dispatch_laws", "QueryAfterCalls"), ("dispatch_laws", "Demand3")]
-WHOLE = re.compile(r"Rattle·(\w+?)(?:·specs\.specs|\.specs)\.(\w+)\.([^.]+)")
+WHOLE = re.compile(r"Rattle\.(\w+)\.specs\.(\w+)\.([^.]+)")
 faults = []
 text = open(PAGE).read()
 
@@ -27,7 +27,7 @@ def section(title):
 
 # ---- crates
 
-listed = dict(re.findall(r"^(\w+):(.*)$", open("crates.txt").read(), re.M))
+listed = dict(re.findall(r"^(\w+)(?: staticlib)?:(.*)$", open("crates.txt").read(), re.M))
 rows = re.findall(r"^\| `(\w+)` \| .+ \|\s*([\w, ]*?)\s*\|$", section("Crates"), re.M)
 for crate in listed:
     if crate not in [name for name, _ in rows]:
@@ -85,7 +85,8 @@ def leads(file, word):
     whole = WHOLE.match(uses(file).get(head, head) + dot + rest)
     if whole:
         return f"crates/{whole[1]}/specs/{whole[2]}.antt", whole[3]
-    return file, word
+    # what stands behind a dot is a field
+    return file, word if word in defined(file) else head
 
 
 def reach(start):

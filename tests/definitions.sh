@@ -10,7 +10,7 @@ PYTHONPATH=tests exec python3 -B - "$@" <<'PYTHON'
 import antt, glob, os, re, sys
 
 faults = []
-INNER = re.compile(r"Rattle·\w+(?:·specs\.specs|\.specs)\.(Inner|Claims)\b")
+INNER = re.compile(r"Rattle\.\w+\.specs\.(Inner|Claims)\b")
 
 for source in sorted(glob.glob("crates/*/src/**/*.rt", recursive=True)):
     text = re.sub(r"//.*", "", open(source).read())
