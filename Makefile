@@ -29,7 +29,7 @@ export SWISTOPAL_LIB_DIR
 
 archive := $(SWISTOPAL_LIB_DIR)/libswistopal.a
 tool_sources := $(wildcard cli/Cargo.* cli/src/*.rs cli/src/*/*.rs bindings/rust/Cargo.* bindings/rust/*.rs bindings/rust/src/*.rs)
-sources := crates.txt $(shell find crates -name '*.rt' -o -name '*.antt')
+sources := crates.txt $(shell find crates -name out -prune -o \( -name '*.rt' -o -name '*.antt' \) -print)
 
 .PHONY: all tour install example compare texts mutants bench interface cli
 all: $(archive)
@@ -37,14 +37,16 @@ all: $(archive)
 # Five objects, each proved: dispatch and queue reading; the query; append and record reading; the report of a stretch; the small functions, which tell
 # what a record makes, with the lister's text. Apart, they leave the compiler free to take what dispatch, the report and record reading judge a record
 # with (the rules, the scan of its properties, the hash) into them.
-exported := swistopal swistopal_index swistopal_log swistopal_stretch swistopal_facts
+exported := swistopal_c swistopal_index_c swistopal_log_c swistopal_stretch_c swistopal_facts_c
 $(built_lib_dir)/libswistopal.a: $(sources)
-	for crate in $(exported); do rt staticlib $$crate || exit 1; done
+	for crate in $(exported); do (cd crates/$$crate && rt lib) || exit 1; done
 	rm -rf $(@D) && mkdir -p $(@D)
-	cd $(@D) && for crate in $(exported); do ar x ../staticlib/lib$$crate.a || exit 1; done && ar rcsD $(@F).part *.o && rm *.o && mv $(@F).part $(@F)
+	cd $(@D) && for crate in $(exported); do ar x $(CURDIR)/crates/$$crate/out/lib$$crate.a || exit 1; done && ar rcsD $(@F).part *.o && rm *.o && mv $(@F).part $(@F)
 
+# `rt run` proves and builds, and runs once what it built.
 $(built_lister): $(sources)
-	rt check lister
+	cd crates/lister && rt run < stdin > /dev/null
+	install -D -m 755 crates/lister/out/lister $@
 
 # Phony: the prefix may be another one than last time.
 .PHONY: target/swistopal.pc

@@ -1,7 +1,7 @@
 #!/usr/bin/env bash
 # What others link: the header alone as C and C++, the example both ways and from an installation, one version for all of
 # it, the Rust bindings.
-# Run after `make` and `rt check lister`; SWISTOPAL_LIB_DIR and LISTER name others. Prints what fails, exit 1 then.
+# Run after `make` and `make target/bin/lister`; SWISTOPAL_LIB_DIR and LISTER name others. Prints what fails, exit 1 then.
 set -euo pipefail
 cd "$(dirname "$0")/.."
 export SWISTOPAL_LIB_DIR="${SWISTOPAL_LIB_DIR:-$PWD/target/lib}"
@@ -9,7 +9,7 @@ export LISTER="${LISTER:-target/bin/lister}"
 export PATH="$PATH:$HOME/.cargo/bin"
 
 for needed in "$SWISTOPAL_LIB_DIR/libswistopal.a" "$LISTER"; do
-    [ -f "$needed" ] || { echo "interface: no $needed; 'make' and 'rt check lister' make it" >&2; exit 1; }
+    [ -f "$needed" ] || { echo "interface: no $needed; 'make' and 'make target/bin/lister' make it" >&2; exit 1; }
 done
 folder=$(mktemp -d)
 trap 'rm -rf "$folder"' EXIT
