@@ -6,14 +6,14 @@ ghost use Rattle.directory.specs.Directory.{row_length, row_queue, names, row_fr
 ghost use Rattle.directory.specs.Inner.{row_size, rows_of, InRows, Sized, bucket_of};
 
 // The number of rows, 1 to 16, of a directory that is in order.
-#[derive(Drop)]
+#[derive(Clone, Copy)]
 pub enum RowCount {
     Refused,
     Rows(usize),
 }
 
 // The number of the row of a topic and id.
-#[derive(Drop)]
+#[derive(Clone, Copy)]
 pub enum Located {
     Unlisted,
     Row(usize),

@@ -8,7 +8,7 @@ ghost use Rattle.utf8.specs.Utf8 as utf;
 ghost use Rattle.utf8.specs.Inner.{leading_ones, by_leading_ones, Behind};
 
 // A character: how many bytes it takes, 0 where none stands, and its number.
-#[derive(Drop)]
+#[derive(Clone, Copy)]
 pub struct Char {
     pub size: usize,
     pub code: u32,
