@@ -4,7 +4,7 @@
 #   statement is proved; the wrong programs that other pages name are there too;
 # - docs/FORMAT.md: each section ends with its definitions, and each of them is in the file behind it;
 # - crates/*/must-fail: every public function has two wrong programs or more in its own body, and every wrong program changes the function that it
-#   names: a text of its body, or a constant that the body names; beside that at most its own proof file.
+#   names: a text of its body, or a constant that the body names; beside that at most its own proof files.
 #
 # A statement is what has no parameters: in a specs/Claims.antt all of it, elsewhere in specs/ each type that docs/CLAIMS.md names. It is proved by
 # a declaration whose whole type is its name, in the first column of a file that the crate's proofs/Lib.antt reaches: that the declaration holds
@@ -123,12 +123,13 @@ for crate, programs in wrong.items():
         if place and (crate, place) not in functions:
             faults.append(f"{edit}: {name}: {place} is no function of {crate}")
         elif place:
-            body, proof = functions[crate, place][2], f"proofs/{place.replace('::', '/')}/Proof.antt"
-            # the places of its own proof may move with the code
-            if all(file == proof for file, _ in replaced):
+            body = functions[crate, place][2]
+            proofs = [f"proofs/{place.replace('::', '/')}/{file}.antt" for file in ("Invariants", "Answers", "Proof")]
+            # the answers of its own proof may change with the code
+            if all(file in proofs for file, _ in replaced):
                 faults.append(f"{edit}: {name}: it does not change {place}")
             for file, text in replaced:
-                if file == proof:
+                if file in proofs:
                     continue
                 constant = re.match(r"(?:pub )?const (\w+): ", text)
                 if text in body:
