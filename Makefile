@@ -21,6 +21,9 @@ COUNT ?= 20000
 SEED ?= 1
 BENCH ?=
 
+# Every processor of its kind runs the archive and the lister: by itself `rt` builds for x86-64-v2.
+CPU = x86-64
+
 built_lib_dir := $(CURDIR)/target/lib
 built_lister := target/bin/lister
 SWISTOPAL_LIB_DIR ?= $(built_lib_dir)
@@ -39,13 +42,13 @@ all: $(archive)
 # with (the rules, the scan of its properties, the hash) into them.
 exported := swistopal_c swistopal_index_c swistopal_log_c swistopal_stretch_c swistopal_facts_c
 $(built_lib_dir)/libswistopal.a: $(sources)
-	for crate in $(exported); do (cd crates/$$crate && rt lib) || exit 1; done
+	for crate in $(exported); do (cd crates/$$crate && rt lib --cpu $(CPU)) || exit 1; done
 	rm -rf $(@D) && mkdir -p $(@D)
 	cd $(@D) && for crate in $(exported); do ar x $(CURDIR)/crates/$$crate/out/lib$$crate.a || exit 1; done && ar rcsD $(@F).part *.o && rm *.o && mv $(@F).part $(@F)
 
 # `rt run` proves and builds, and runs once what it built.
 $(built_lister): $(sources)
-	cd crates/lister && rt run < stdin > /dev/null
+	cd crates/lister && rt run --cpu $(CPU) < stdin > /dev/null
 	install -D -m 755 crates/lister/out/lister $@
 
 # Phony: the prefix may be another one than last time.
