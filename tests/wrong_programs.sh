@@ -188,7 +188,7 @@ with tempfile.TemporaryDirectory(prefix="swistopal-wrong-programs-") as room:
 for fault in faults:
     print(fault)
 if faults and not said:
-    print(ran.stdout[-2000:])
+    print(f"rt must-fail ended with status {ran.returncode}: {ran.stdout[-2000:]}")
 if faults or not edits:
     sys.exit(1)
 print(f"{len(programs)} wrong programs in {len(edits)} edits, each refused by itself; {again} of them by a whole check")
