@@ -37,10 +37,10 @@ sources := crates.txt $(shell find crates -name out -prune -o \( -name '*.rt' -o
 .PHONY: all tour install example compare texts mutants bench interface cli
 all: $(archive)
 
-# Five objects, each proved: dispatch and queue reading; the query; append and record reading; the report of a stretch; the small functions, which tell
-# what a record makes, with the lister's text. Apart, they leave the compiler free to take what dispatch, the report and record reading judge a record
-# with (the rules, the scan of its properties, the hash) into them.
-exported := swistopal_c swistopal_index_c swistopal_log_c swistopal_stretch_c swistopal_facts_c
+# Six objects, each proved: dispatch and queue reading; the query; append and record reading; the report of a stretch; the lister's text; the small
+# functions, which tell what a record makes. Apart, they leave the compiler free to take what dispatch, the report and record reading judge a record
+# with (the rules, the scan of its properties, the hash), and what a tag's code decodes with, into them.
+exported := swistopal_c swistopal_index_c swistopal_log_c swistopal_stretch_c swistopal_listing_c swistopal_facts_c
 $(built_lib_dir)/libswistopal.a: $(sources)
 	for crate in $(exported); do (cd crates/$$crate && rt lib --cpu $(CPU)) || exit 1; done
 	rm -rf $(@D) && mkdir -p $(@D)

@@ -1,6 +1,6 @@
-// What C links of the small functions of include/swistopal.h, which tell what a record makes, whether an index file is sound, and what a segment holds, as
-// crate swistopal_facts has them. They are an object of their own, so that what dispatch and record reading judge a record with has no second caller
-// there, which would keep the compiler from taking it into theirs.
+// What C links of the small functions of include/swistopal.h, which tell what a record makes and whether an index file is sound, as crate swistopal_facts
+// has them. They are an object of their own, so that what dispatch and record reading judge a record with has no second caller there, which would keep
+// the compiler from taking it into theirs.
 #![tactic(auto)]
 
 ghost use Rattle.std.specs.Prelude.{◌≡◌, length};
@@ -10,8 +10,7 @@ ghost use Rattle.java_hash.specs.Hash.{tag_code};
 ghost use Rattle.properties.specs.Finder.{scanned};
 ghost use Rattle.dispatch_request.specs.Request.{transaction, makes_entry, makes_items, record_keys, has_item};
 ghost use Rattle.interface.specs.Structs.{index_sizes_in};
-ghost use Rattle.listing.specs.Listing.{listing};
-ghost use Rattle.swistopal_facts.specs.Facts.{values_of, index_answer, list};
+ghost use Rattle.swistopal_facts.specs.Facts.{values_of, index_answer};
 
 #[unsafe(no_mangle)]
 pub extern "C" fn swistopal_tag_code(tag: &[u8]) -> u64
@@ -59,11 +58,4 @@ pub extern "C" fn swistopal_check_index(index: &[u8], sizes: &[u64; 5]) -> u32
     ensures { result ≡ number_of (index_answer (index_sizes_in sizes.now) index.now) }
 {
     swistopal_facts::swistopal_check_index(index, sizes)
-}
-
-#[unsafe(no_mangle)]
-pub extern "C" fn swistopal_list(segment: &[u8], text: &mut [u8], written: &mut u64) -> u32
-    ensures { record { answer = result; text = text.new; written = written.new } ≡ list (listing segment.now text.old) }
-{
-    swistopal_facts::swistopal_list(segment, text, written)
 }
