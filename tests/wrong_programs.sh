@@ -1,22 +1,20 @@
 #!/usr/bin/env bash
-# The wrong programs of crates/*/must-fail, one by one, in the crates that are named, or in all: each is refused alone, in the place that it names, and because
-# a fact fails there. Prints what does not hold, exit 1 if anything does not.
+# The wrong programs of crates/*/must-fail, in the crates that are named, or in all: each is refused in the place that it names, and because a fact fails
+# there. Prints what does not hold, exit 1 if anything does not.
 #
 # `rt ci` asks that an edit is refused. An edit may hold several wrong programs, one of a function. Each has a line
 #   wrong: NAME in FUNCTION      the function's own proof fails, or none is found for it
 #   wrong: NAME at proofs/FILE   an edit to a definition: a law in that file fails
-# In a copy of the crates each wrong program is an edit of its own, and `rt must-fail` tries them there, over what checks of these crates kept. `rt` keeps what an
-# edit came to by all that it stands on, so that a later run on the same machine tries only what has changed; from nothing it takes half an hour on four cores.
-# Where the first fact that `rt` names stands elsewhere, as with a constant or a definition, the crate is checked with that program once more, and all is read.
+# In copies of the crates each edit is checked as a whole, over what checks of these crates kept, and all is read that the check says.
 set -u
 cd "$(dirname "$0")/.." || exit 1
 exec python3 -B - "$@" <<'PYTHON'
-import glob, os, re, shutil, subprocess, sys, tempfile
+import concurrent.futures, glob, os, queue, re, shutil, subprocess, sys, tempfile
 
 # What a check says where a proof file no longer fits the code: that shows nothing of the program.
-STALE = ["only because a proof file names", "that can be named from here", "has no field", "has no `", "not in scope", "components", "error: `invariant-", "error: `decreases-"]
+STALE = re.compile(r"that can be named from here|has no field|has no `|not in scope|components|error: `(invariant|decreases)-")
 PARTS = ("src", "specs", "proofs")
-faults = []
+faults, names = [], {}
 
 
 def read(path):
@@ -30,9 +28,9 @@ def source_of(place):
     return f"src/{'/'.join(above) or 'lib'}.rt", kind, name
 
 
-def stands_in(crate, place, text, number):
+def stands_in(place, text, number):
     """Whether this line lies in the function, from its attributes to its last brace."""
-    file, kind, name = source_of(place)
+    _, kind, name = source_of(place)
     lines, of = text.split("\n"), ""
     for at, line in enumerate(lines):
         begun = re.match(r"impl (\w+)", line)
@@ -47,77 +45,63 @@ def stands_in(crate, place, text, number):
     return False
 
 
-class Program:
-    """A wrong program: its edit, crate and name, whether it is `in` or `at` the place, and what it puts for what: (file, old, new)."""
+class Edit:
+    """An edit: its crate, the programs (name, kind, place) that it holds, and the texts of the files that it changes."""
 
-    def __init__(self, edit, crate, name, kind, place, pairs):
-        self.edit, self.crate, self.name, self.kind, self.place, self.pairs = edit, crate, name, kind, place, pairs
+    def __init__(self, path):
+        self.path, self.crate, self.programs, self.texts = path, path.split("/")[1], [], {}
+        before, *found = re.split(r"^wrong: ", read(path), flags=re.M)
+        if before or not found:
+            faults.append(f"{path}: it does not start with a line 'wrong: NAME in FUNCTION'")
+        file, old = "", ""
+        for program in found:
+            head = re.match(r"(\w+) (in|at) (\S+)\n", program)
+            if not head or not re.search(r"^old: .*\nnew:", program, re.M):
+                faults.append(f"{path}: not 'wrong: NAME in FUNCTION' or 'wrong: NAME at FILE' with a replacement below it: {program.splitlines()[0]}")
+                continue
+            name, kind, place = head.groups()
+            if any(place == other for _, _, other in self.programs) or kind == "at" and len(found) > 1:
+                faults.append(f"{path}: {name}: its refusal cannot be told from that of another wrong program of the edit")
+            if name in names.setdefault(self.crate, set()):
+                faults.append(f"{path}: {name} stands twice in the crate")
+            names[self.crate].add(name)
+            self.programs.append((name, kind, place))
+            for key, text in re.findall(r"^(file|old|new):(?: (.*))?$", program, re.M):
+                if key == "file":
+                    file = text.strip()
+                elif key == "old":
+                    old = text
+                else:
+                    whole = f"crates/{self.crate}/{file}"
+                    was = self.texts.setdefault(file, read(whole) if os.path.exists(whole) else "")
+                    if was.count(old) != 1:
+                        faults.append(f"{path}: {name}: '{old}' stands {was.count(old)} times in {file}, and not once")
+                    self.texts[file] = was.replace(old, text)
 
-    def texts(self):
-        """The texts of the files that it changes."""
-        texts = {}
-        for file, old, new in self.pairs:
-            texts[file] = texts.get(file, read(f"crates/{self.crate}/{file}")).replace(old, new)
-        return texts
+    def judged(self, said):
+        """What does not hold, by all that the check said."""
+        if not re.search(r"^logic=not-proved", said, re.M):
+            return [f"{self.path}: the check did not end with logic=not-proved: {said.strip()[-300:]}"]
+        lines = [line for line in said.split("\n") if re.match(r"(?:note: )?\S+:\d+:\d+: ", line) and (": error" in line or line.startswith("note: "))]
+        stale = [f"{self.path}: a proof file does not fit the code: {line[:200]}" for line in lines if STALE.search(line)]
+        facts = [line for line in lines if not STALE.search(line) and "was not admitted" not in line and " not checked: " not in line]
+        return stale + [
+            f"{self.path}: {name}: {place} is not refused by itself"
+            for name, kind, place in self.programs
+            if not any(self.is_here(kind, place, line) for line in facts)
+            or kind == "in" and not re.search(rf"^fn {self.crate}::{re.escape(place)}: (not proved|no proof: .*`search` did not prove)", said, re.M)
+        ]
 
-    def is_here(self, said):
+    def is_here(self, kind, place, line):
         """Whether what a line says of a fact is said of the place."""
-        found = re.match(r"(?:note: )?(?:\./)?(\S+?):(\d+):\d+: ", said)
-        if not found or self.kind == "at":
-            return bool(found) and found[1] == self.place
-        if found[1].startswith(f"proofs/{self.place.replace('::', '/')}/"):
-            return "was not admitted" not in said
-        texts = self.texts()
-        path = source_of(self.place)[0]
-        return found[1] == path and stands_in(self.crate, self.place, texts.get(path) or read(f"crates/{self.crate}/{path}"), int(found[2]))
-
-
-def programs_of(edit):
-    crate, file = edit.split("/")[1], ""
-    before, *found = re.split(r"^wrong: ", read(edit), flags=re.M)
-    if before or not found:
-        faults.append(f"{edit}: it does not start with a line 'wrong: NAME in FUNCTION'")
-    places, edited = [], {}
-    for program in found:
-        head = re.match(r"(\w+) (in|at) (\S+)\n", program)
-        if not head or not re.search(r"^old: .*\nnew:", program, re.M):
-            faults.append(f"{edit}: not 'wrong: NAME in FUNCTION' or 'wrong: NAME at FILE' with a replacement below it: {program.splitlines()[0]}")
-            continue
-        name, kind, place = head.groups()
-        if place in places or kind == "at" and len(found) > 1:
-            faults.append(f"{edit}: {name}: its refusal cannot be told from that of another wrong program of the edit")
-        places.append(place)
-        pairs, old = [], ""
-        for key, text in re.findall(r"^(file|old|new):(?: (.*))?$", program, re.M):
-            if key == "file":
-                file = text.strip()
-            elif key == "old":
-                old = text
-            else:
-                whole = f"crates/{crate}/{file}"
-                was = edited.setdefault(file, read(whole) if os.path.exists(whole) else "")
-                if was.count(old) != 1:
-                    faults.append(f"{edit}: {name}: '{old}' stands {was.count(old)} times in {file}, and not once")
-                    break
-                pairs += [*apart(crate, file, was, old, edit, name), (file, old, text)]
-                edited[file] = was.replace(old, text)
-        else:
-            yield Program(edit, crate, name, kind, place, pairs)
-
-
-def apart(crate, file, was, old, edit, name):
-    """Where the text stands on lines that earlier programs of the edit changed too: what makes it stand once without them, by a comment in the other lines."""
-    text = read(f"crates/{crate}/{file}")
-    if text.count(old) == 1:
-        return
-    line = was[: was.index(old)].count("\n")
-    for number, other in enumerate(text.split("\n")):
-        if number != line and old in other:
-            begun = re.match(r"\s*\w+", other)
-            if not file.endswith(".rt") or text.count(other) != 1 or not begun or old not in other[: begun.end()] + other[begun.end() :]:
-                faults.append(f"{edit}: {name}: '{old}' does not stand once in {file}")
-                return
-            yield file, other, other[: begun.end()] + "/**/" + other[begun.end() :]
+        file, number = re.match(r"(?:note: )?(?:\./)?(\S+?):(\d+):\d+: ", line).groups()
+        if kind == "at":
+            return file == place
+        folder = place.replace("::", "/")
+        if file.startswith((f"proofs/{folder}/", f"proofs/+{folder}/")):
+            return True
+        source = source_of(place)[0]
+        return file == source and stands_in(place, self.texts.get(source) or read(f"crates/{self.crate}/{source}"), int(number))
 
 
 def link(one, other):
@@ -127,69 +111,54 @@ def link(one, other):
         shutil.copyfile(one, other)
 
 
-edits = sorted(glob.glob("crates/*/must-fail/*.edit"))
-every = sorted({edit.split("/")[1] for edit in edits})
-lacking = [crate for crate in sys.argv[1:] if crate not in every]
-if lacking:
-    sys.exit(f"wrong programs: {lacking[0]} is no crate with must-fail edits")
-crates = sys.argv[1:] or every
-edits = [edit for edit in edits if edit.split("/")[1] in crates]
-programs = {}
-for edit in edits:
-    for program in programs_of(edit):
-        if (program.crate, program.name) in programs:
-            faults.append(f"{edit}: {program.name} stands twice in the crate")
-        programs[program.crate, program.name] = program
-
-with tempfile.TemporaryDirectory(prefix="swistopal-wrong-programs-") as room:
-    os.mkdir(f"{room}/.git")
+def room_in(folder):
+    """A copy of the crates and of what checks of them kept: `rt` makes such files anew and never writes into them."""
+    os.makedirs(f"{folder}/.git")
     for file in ("crates.txt", "HANDLES"):
         if os.path.exists(file):
-            shutil.copyfile(file, f"{room}/{file}")
+            shutil.copyfile(file, f"{folder}/{file}")
     for crate in sorted(glob.glob("crates/*")):
         for part in PARTS:
             if os.path.isdir(f"{crate}/{part}"):
-                shutil.copytree(f"{crate}/{part}", f"{room}/{crate}/{part}")
-        # `rt` makes such files anew and never writes into them.
+                shutil.copytree(f"{crate}/{part}", f"{folder}/{crate}/{part}")
         for kept in ("out/rlib", "out/incremental"):
             if os.path.isdir(f"{crate}/{kept}"):
-                shutil.copytree(f"{crate}/{kept}", f"{room}/{crate}/{kept}", copy_function=link)
-    for (crate, name), program in programs.items():
-        os.makedirs(f"{room}/crates/{crate}/must-fail", exist_ok=True)
-        with open(f"{room}/crates/{crate}/must-fail/{name}.edit", "w", encoding="utf-8") as it:
-            it.write("".join(f"file: {file}\nold: {old}\nnew: {new}\n" for file, old, new in program.pairs))
-    ran = subprocess.run(["rt", "must-fail", *crates], cwd=room, stdin=subprocess.DEVNULL, stdout=subprocess.PIPE, stderr=subprocess.STDOUT, text=True, errors="replace")
-    said = dict(((crate, name), rest) for crate, name, rest in re.findall(r"^rt: must-fail (\w+)/(\w+)\.edit: (.*)$", ran.stdout, re.M))
-    again = 0
-    for key, program in sorted(programs.items()):
-        told = said.get(key, "")
-        refused = re.match(r"refused, as it must be(?:: | \((?!only because)[^)]*\): |$)(.*)", told)
-        where = f"{program.edit}: {program.name}: {program.place}"
-        if not told:
-            faults.append(f"{where}: it was not tried")
-        elif not refused or any(words in told for words in STALE):
-            faults.append(f"{where} is not refused by itself: {told[:200]}")
-        elif not program.is_here(refused[1]):
-            # A fact elsewhere came first: all of what the check says.
-            again += 1
-            folder = f"{room}/crates/{program.crate}"
-            for file, text in program.texts().items():
-                with open(f"{folder}/{file}", "w", encoding="utf-8") as it:
-                    it.write(text)
-            only = ["--only", program.place] if program.kind == "in" else []
-            check = subprocess.run(["rt", "check", *only], cwd=folder, stdin=subprocess.DEVNULL, stdout=subprocess.PIPE, stderr=subprocess.STDOUT, text=True, errors="replace")
-            for file in program.texts():
-                shutil.copyfile(f"crates/{program.crate}/{file}", f"{folder}/{file}")
-            lines = [line for line in check.stdout.split("\n") if re.match(r"(?:note: )?\S+:\d+:\d+: ", line)]
-            lines = [line for line in lines if ": error" in line or line.startswith("note: ")]
-            if any(words in line for words in STALE for line in lines) or not any(map(program.is_here, lines)):
-                faults.append(f"{where} is not refused by itself, but elsewhere: {told[:200]}")
+                shutil.copytree(f"{crate}/{kept}", f"{folder}/{crate}/{kept}", copy_function=link)
+    return folder
+
+
+def tried(edit):
+    room = rooms.get()
+    folder = f"{room}/crates/{edit.crate}"
+    try:
+        for file, text in edit.texts.items():
+            with open(f"{folder}/{file}", "w", encoding="utf-8") as it:
+                it.write(text)
+        check = ["rt", "check", "--jobs", "1"]
+        return subprocess.run(check, cwd=folder, stdin=subprocess.DEVNULL, stdout=subprocess.PIPE, stderr=subprocess.STDOUT, text=True, errors="replace").stdout
+    finally:
+        for file in edit.texts:
+            shutil.copyfile(f"crates/{edit.crate}/{file}", f"{folder}/{file}")
+        rooms.put(room)
+
+
+edits = sorted(glob.glob("crates/*/must-fail/*.edit"))
+lacking = [crate for crate in sys.argv[1:] if crate not in {edit.split("/")[1] for edit in edits}]
+if lacking:
+    sys.exit(f"wrong programs: {lacking[0]} is no crate with must-fail edits")
+edits = [Edit(edit) for edit in edits if not sys.argv[1:] or edit.split("/")[1] in sys.argv[1:]]
+if not faults:
+    with tempfile.TemporaryDirectory(prefix="swistopal-wrong-programs-") as top:
+        rooms, many = queue.Queue(), os.cpu_count() or 1
+        for number in range(many):
+            rooms.put(room_in(f"{top}/{number}"))
+        with concurrent.futures.ThreadPoolExecutor(many) as pool:
+            for edit, said in zip(edits, pool.map(tried, edits)):
+                faults += edit.judged(said)
 
 for fault in faults:
     print(fault)
-if faults and not said:
-    print(f"rt must-fail ended with status {ran.returncode}: {ran.stdout[-2000:]}")
 if faults or not edits:
     sys.exit(1)
-print(f"{len(programs)} wrong programs in {len(edits)} edits, each refused by itself; {again} of them by a whole check")
+print(f"{sum(map(len, names.values()))} wrong programs in {len(edits)} edits, each refused by itself")
 PYTHON
