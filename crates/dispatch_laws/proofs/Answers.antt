@@ -107,8 +107,8 @@ step-goes f v s = go (stands_here f v s) (stands-halts f.directory f.sizes.geome
         (entry-ruled q.entry q.row q.queue_offset f.sizes.queue_entries s.counts)
         (unless-goes _ _ (items-ruled f.sizes.index.slot_count f.sizes.index.item_count s.index (position_of s) hs) done)
 
-pub never-spent : NeverSpent
-never-spent f v s e =
+pub never_spent : NeverSpent
+never_spent f v s e =
     let z : false ≡ true = step-goes f v s _ e in
     let y : ◌≡◌ {A = ℕ} 0 1 = cc in
     omega arith
