@@ -1,4 +1,4 @@
-// What other programs link: dispatch and queue reading of include/swistopal.h. Each calls the function of its layer and gives that answer's
+// Dispatch and queue reading of include/swistopal.h, which crate swistopal_c hands to C. Each calls the function of its layer and gives that answer's
 // number. A struct of the header is a lent array here.
 #![tactic(auto)]
 

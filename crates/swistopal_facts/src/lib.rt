@@ -1,6 +1,5 @@
-// What a record makes, whether an index file is sound, and what a segment holds, for programs that would else repeat a rule: further C functions of
-// include/swistopal.h. They are an object of their own, so that what dispatch and record reading judge a record with has no second caller there, which
-// would keep the compiler from taking it into theirs.
+// What a record makes, whether an index file is sound, and what a segment holds, for programs that would else repeat a rule: further functions of
+// include/swistopal.h, which crates swistopal_facts_c and swistopal_listing_c hand to C.
 #![tactic(auto)]
 
 ghost use Rattle.std.specs.Prelude.{◌≡◌, length};

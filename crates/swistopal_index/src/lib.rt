@@ -1,5 +1,4 @@
-// What other programs link of the index: the query of include/swistopal.h. It is an object of its own, so that what dispatch hashes keys with has no
-// second caller there and is taken into its loop.
+// The query of include/swistopal.h, which crate swistopal_index_c hands to C. It calls the function of its layer and gives that answer's number.
 #![tactic(auto)]
 
 ghost use Rattle.std.specs.Prelude.{◌≡◌};

@@ -1,5 +1,5 @@
-// What other programs link of the log alone: append and record reading of include/swistopal.h. They are an object of their own, so that what dispatch
-// reads a record with has no second caller there and is taken into its loop.
+// Append and record reading of include/swistopal.h, which crate swistopal_log_c hands to C. Each calls the function of its layer and gives that answer's
+// number.
 #![tactic(auto)]
 
 ghost use Rattle.std.specs.Prelude.{◌≡◌};

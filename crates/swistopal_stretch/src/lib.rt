@@ -1,5 +1,5 @@
-// What a stretch of the log holds, for programs that link it: further operations of include/swistopal.h. They are an archive of their own, so that
-// neither their functions nor dispatch's have a second caller, which would keep the compiler from taking them into its loops.
+// The report of a stretch of the log, of include/swistopal.h, which crate swistopal_stretch_c hands to C. It calls the function of its layer and gives
+// that answer's number.
 #![tactic(auto)]
 
 ghost use Rattle.std.specs.Prelude.{◌≡◌};
