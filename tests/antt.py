@@ -1,4 +1,5 @@
-"""What the tests read of .antt files: the declarations in a file's first column, what its `use` lines bring, and the files that a root's `mod` lines reach."""
+"""What the tests read of .antt files: the declarations in a file's first column, what its `use` lines bring, and the files that a root's `mod` lines reach;
+and of .rt files: whose `impl` begins at a line."""
 import os, re
 
 TOKEN = re.compile(r'"(?:\\.|[^"\\])*"|[(){};,@]|(?:«[^»]*»|[^\s(){};,@"«»])+')
@@ -106,3 +107,9 @@ def reached(folder, file="Lib.antt"):
         if words[:1] == ["mod"]:
             files += reached(below, words[1] + ".antt")
     return files
+
+
+def impl_at(line):
+    """The type whose `impl` begins at the line, with the trait's name behind it as the check has it: `U32FromAnswer` of `impl From<Answer> for u32`."""
+    begun = re.match(r"impl(?:<[^>]*>)? (?:(?:\w+::)*(\w+)(?:<(\w+)>)? for )?(\w+)", line)
+    return "".join(part[0].upper() + part[1:] for part in (begun[3], begun[1], begun[2]) if part) if begun else ""

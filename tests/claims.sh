@@ -101,22 +101,26 @@ for part in re.split(r"^(?=##)", open("docs/FORMAT.md").read(), flags=re.M)[1:]:
             if name not in text:
                 faults.append(f"docs/FORMAT.md: '{title}': no `{name}` in {file}")
 
-# ---- the functions
+# ---- the functions: a method of a trait is one of the type with the trait's name behind it, as the check names it
 
 functions = {}
 for source in sorted(glob.glob("crates/*/src/**/*.rt", recursive=True)):
     crate, module = source.split("/")[1], source.split("/", 3)[3].removesuffix(".rt").replace("/", "::") + "::"
     of, lines = "" if module in ("lib::", "main::") else module, open(source).read().split("\n")
-    kind = ""
+    kind, shown, gives, private = "", False, False, re.findall(r"^(?:struct|enum) (\w+)", "\n".join(lines), re.M)
     for number, line in enumerate(lines):
-        begun = re.match(r"impl (\w+)", line)
-        kind = begun.group(1) + "::" if begun else "" if line.startswith("}") else kind
+        begun = antt.impl_at(line)
+        kind = begun + "::" if begun else "" if line.startswith("}") else kind
+        # a trait's methods are as public as the type, and promise something where the `impl` says what they give
+        trait = re.match(r"impl.* for (\w+)", line)
+        shown = trait[1] not in private if trait else shown and not line.startswith("}")
+        gives = shown and (gives or re.match(r"    ghost \w+ = \{", line))
         function = re.match(r'( *)(pub )?(?:extern "C" )?fn (\w+)', line)
         if function:
             margin, public, name = function.groups()
             end = next(i for i in range(number, len(lines)) if lines[i] == margin + "}")
             body = next(i for i in range(number, end) if lines[i].endswith("{") and not lines[i].startswith(margin + " "))
-            functions[crate, of + kind + name] = (f"{source}:{number + 1}", bool(public), "\n".join(lines[body : end + 1]))
+            functions[crate, of + kind + name] = (f"{source}:{number + 1}", bool(public or gives), "\n".join(lines[body : end + 1]))
 own = {}
 for crate, programs in wrong.items():
     for edit, name, place, replaced in programs:

@@ -18,7 +18,7 @@ def source(path):
 
 
 def body(function, text):
-    found = re.search(r"^( *)(?:pub )?fn %s\b.*?^\1\{\n(.*?)^\1\}" % re.escape(function), text, re.M | re.S)
+    found = re.search(r"^( *)(?:pub )?fn %s\b(?:[^\n]* \{\n|.*?^\1\{\n)(.*?)^\1\}" % re.escape(function), text, re.M | re.S)
     return re.sub(r"//.*", "", found.group(2)) if found else ""
 
 

@@ -8,8 +8,8 @@
 # In copies of the crates each edit is checked as a whole, over what checks of these crates kept, and all is read that the check says.
 set -u
 cd "$(dirname "$0")/.." || exit 1
-exec python3 -B - "$@" <<'PYTHON'
-import concurrent.futures, glob, os, queue, re, shutil, subprocess, sys, tempfile
+PYTHONPATH=tests exec python3 -B - "$@" <<'PYTHON'
+import antt, concurrent.futures, glob, os, queue, re, shutil, subprocess, sys, tempfile
 
 # What a check says where a proof file no longer fits the code: that shows nothing of the program.
 STALE = re.compile(r"that can be named from here|has no field|has no `|not in scope|components|error: `(invariant|decreases)-")
@@ -22,7 +22,7 @@ def read(path):
 
 
 def source_of(place):
-    """The file of src/ that holds a function, its name there, and the type whose method it is."""
+    """The file of src/ that holds a function, its name there, and the type whose method it is, with the trait's name behind it if it is one's."""
     *above, name = place.split("::")
     kind = above.pop() if above and above[-1][0].isupper() else ""
     return f"src/{'/'.join(above) or 'lib'}.rt", kind, name
@@ -33,8 +33,7 @@ def stands_in(place, text, number):
     _, kind, name = source_of(place)
     lines, of = text.split("\n"), ""
     for at, line in enumerate(lines):
-        begun = re.match(r"impl (\w+)", line)
-        of = begun.group(1) if begun else "" if line.startswith("}") else of
+        of = antt.impl_at(line) or ("" if line.startswith("}") else of)
         function = re.match(r'( *)(?:pub )?(?:extern "C" )?fn (\w+)', line)
         if function and function[2] == name and of == kind:
             first = at

@@ -1,15 +1,11 @@
 -- Worked examples of readings on which careful readers differ (docs/DECISIONS.md), as data like the bench's. Assumes nothing.
-use Rattle.std.specs.Prelude.{ℕ, zero, suc, ◌+◌, List, [], ◌∷◌, ◌++◌, length, replicate}
+use Rattle.std.specs.Prelude.{ℕ, zero, suc, ◌+◌, Option, None, Some, List, [], ◌∷◌, ◌++◌, length, replicate}
 use Rattle.codec.specs.Bytes.{little, bytes_of}
 use Rattle.java_hash.specs.Hash.{index_hash}
 use Rattle.properties.specs.declared.Found.{Found}
 use Rattle.properties.specs.declared.Found.TheVariants.{Absent, One, Many}
 use Rattle.properties.specs.Finder.{keys_name, finder, found_bytes}
 use Rattle.properties.specs.Keys.{key_places}
-use Rattle.directory.specs.declared.RowCount.{RowCount}
-use Rattle.directory.specs.declared.RowCount.TheVariants.{Refused, Rows}
-use Rattle.directory.specs.declared.Located.{Located}
-use Rattle.directory.specs.declared.Located.TheVariants.{Unlisted, Row as RowNumber}
 use Rattle.directory.specs.Directory.{row_count, row_of}
 use Rattle.acceptance.specs.Bench.{Row, Holds, keys}
 
@@ -55,17 +51,13 @@ hash_examples =
     ∷ record { given = index_hash (84 ∷ 35 ∷ 97 ∷ []) (98 ∷ []) ∷ []; wanted = index_hash (84 ∷ []) (97 ∷ 35 ∷ 98 ∷ []) ∷ [] }
     ∷ []
 
--- a directory: refused 0; else 1 and the number of rows
-abbrev pub shown_listing : RowCount → List ℕ
-shown_listing Refused = 0 ∷ []
-shown_listing (Rows n) = 1 ∷ n ∷ []
-
-abbrev pub shown_row : Located → List ℕ
-shown_row Unlisted = 0 ∷ []
-shown_row (RowNumber i) = 1 ∷ i ∷ []
+-- a number of rows, or of a row: none 0; else 1 and the number
+abbrev pub shown_number : Option ℕ → List ℕ
+shown_number None = 0 ∷ []
+shown_number (Some n) = 1 ∷ n ∷ []
 
 abbrev pub shown_rows : List ℕ → List ℕ
-shown_rows directory = shown_listing (row_count directory)
+shown_rows directory = shown_number (row_count directory)
 
 -- a row of this kind, id and topic
 abbrev pub directory_row : ℕ → ℕ → List ℕ → List ℕ
@@ -96,8 +88,8 @@ directory_examples =
     ∷ record { given = shown_rows (directory_row 1 0 (84 ∷ []) ++ directory_row 1 1 (84 ∷ []) ++ directory_row 1 0 (85 ∷ [])); wanted = 1 ∷ 3 ∷ [] }
     ∷ record { given = shown_rows (directory_row 1 0 (84 ∷ []) ++ directory_row 1 1 (84 ∷ []) ++ directory_row 1 0 (84 ∷ [])); wanted = 0 ∷ [] }
     -- rows are numbered from 0
-    ∷ record { given = shown_row (row_of (84 ∷ []) 1 (directory_row 1 0 (84 ∷ []) ++ directory_row 1 1 (84 ∷ []))); wanted = 1 ∷ 1 ∷ [] }
-    ∷ record { given = shown_row (row_of (85 ∷ []) 1 (directory_row 1 0 (84 ∷ []) ++ directory_row 1 1 (84 ∷ []))); wanted = 0 ∷ [] }
+    ∷ record { given = shown_number (row_of (84 ∷ []) 1 (directory_row 1 0 (84 ∷ []) ++ directory_row 1 1 (84 ∷ []))); wanted = 1 ∷ 1 ∷ [] }
+    ∷ record { given = shown_number (row_of (85 ∷ []) 1 (directory_row 1 0 (84 ∷ []) ++ directory_row 1 1 (84 ∷ []))); wanted = 0 ∷ [] }
     ∷ []
 
 unfoldable pub examples : List Row

@@ -10,6 +10,7 @@ use commit_log::Geometry;
 use dispatch::Dispatched;
 use dispatch_step::{Progress, Sizes};
 use index_file::IndexSizes;
+use record_writer::Parts;
 use std::io;
 use units::LogPosition;
 
@@ -34,7 +35,7 @@ const LINK: usize = 104;
 fn number_at(index: &[u8; 128], at: usize) -> u64
     requires { at + 4 ≤ 128 }
 {
-    codec::get_u32(index, at) as u64
+    u64::from(codec::get_u32(index, at))
 }
 
 // One record more, the queue's with this offset: the log's end behind it.
@@ -46,19 +47,20 @@ fn append(
     store_time: u64,
 ) -> LogPosition {
     let fields = [0, 0, 0, offset, system_flag, 0, store_time, 0, 0];
-    let appended = commit_log::append(
+    commit_log::append(
         log,
         GEOMETRY,
         end,
         &fields,
-        &HOST,
-        &HOST,
-        b"",
-        b"T",
-        b"UNIQ_KEY\x01k",
-    );
-    let behind = appended.write_position;
-    behind
+        Parts {
+            born_host: &HOST,
+            store_host: &HOST,
+            body: b"",
+            topic: b"T",
+            properties: b"UNIQ_KEY\x01k",
+        },
+    )
+    .write_position
 }
 
 // The log, dispatched from its start.
@@ -94,12 +96,13 @@ fn file(
 fn ask(rt: &HostRuntime, index: &[u8; 128], from: u64) -> io::Result<()> {
     let mut out = [0u64; 5];
     let made = index_query::query(index, INDEX, b"T", b"k", from, 20000, 5, &mut out);
-    let answer = made.answer;
-    let number = answer.number();
     let link = number_at(index, LINK);
-    let found = made.found;
-    let read = made.read;
-    println!(rt; "{from} {link} {number} {found} {read}")
+    println!(rt;
+        "{from} {link} {} {} {}",
+        u32::from(made.answer),
+        made.found,
+        made.read
+    )
 }
 
 fn two_records(index: &mut [u8; 128]) {
@@ -110,22 +113,19 @@ fn two_records(index: &mut [u8; 128]) {
     file(&log, end, &mut counts, index);
 }
 
-fn link_second(index: &mut [u8; 128], item: u32) {
-    codec::put_u32(index, LINK, item);
-}
-
 fn one_record(rt: &HostRuntime, system_flag: u64) -> io::Result<()> {
     let mut log = [0u8; 1024];
     let mut counts = [0u64; 16];
     let mut index = [0u8; 128];
     let end = append(&mut log, LogPosition(0), 0, system_flag, 10000);
     let made = file(&log, end, &mut counts, &mut index);
-    let answer = made.answer;
-    let number = answer.number();
-    let steps = made.steps;
-    let entries = counts[0];
     let used = number_at(&index, USED);
-    println!(rt; "{system_flag} {number} {steps} {entries} {used}")
+    println!(rt;
+        "{system_flag} {} {} {} {used}",
+        u32::from(made.answer),
+        made.steps,
+        counts[0]
+    )
 }
 
 fn main(rt: HostRuntime) -> io::Result<()> {
@@ -133,7 +133,7 @@ fn main(rt: HostRuntime) -> io::Result<()> {
     two_records(&mut index);
     ask(&rt, &index, 10000)?;
     ask(&rt, &index, 10500)?;
-    link_second(&mut index, 2);
+    codec::put_u32(&mut index, LINK, 2);
     ask(&rt, &index, 10000)?;
     one_record(&rt, 0)?;
     one_record(&rt, 4)

@@ -6,9 +6,9 @@ use mathlib.Core.List.{List, [], ◌∷◌, ◌++◌}
 use native.Mathlib.Omega.{arith}
 use lib.ListN.{length, length-append, get_or-append}
 use lib.Seq.{get_or-append_seam}
+use Rattle.std.specs.Prelude.{None, Some}
 use Rattle.codec.specs.Choice.{pick}
 use Rattle.codec.proofs.Choices.{both}
-use Rattle.directory.specs.declared.Located.TheVariants.{Unlisted, Row}
 use Rattle.directory.specs.Claims.{Fits}
 use Rattle.directory.specs.Directory.{Queue, names, row_from, listed, distinct}
 use Rattle.directory.proofs.Laws.{names_own, named, unlisted, from_found, from_none, later, once}
@@ -27,12 +27,12 @@ module _ (topic : List ℕ) (id : ℕ) where
   absent_more (p ∷ qs) q h n zero g = h 0 (record { within = omega arith; named = g.named })
   absent_more (p ∷ qs) q h n (suc i) g = absent_more qs q (λ j f. h (suc j) (sooner f)) n i (later topic id g)
 
-  absent_from : (n : ℕ) (qs : List Queue) → Absent topic id qs → row_from n topic id qs ≡ Unlisted
+  absent_from : (n : ℕ) (qs : List Queue) → Absent topic id qs → row_from n topic id qs ≡ None
   unfolding row_from pick
   absent_from n [] h = refl
   absent_from n (q ∷ qs) h = go (names topic id q) refl (absent_from (n + 1) qs (λ i f. h (suc i) (sooner f)))
     where
-      go : (t : Bool) → names topic id q ≡ t → row_from (n + 1) topic id qs ≡ Unlisted → pick t (Row n) (row_from (n + 1) topic id qs) ≡ Unlisted
+      go : (t : Bool) → names topic id q ≡ t → row_from (n + 1) topic id qs ≡ None → pick t (Some n) (row_from (n + 1) topic id qs) ≡ None
       go true f e = absurd (h 0 (record { within = omega arith; named = f }))
       go false f e = e
 
@@ -55,7 +55,7 @@ fits_left topic id qs rs f =
     let w = f.within in
     record { within = rw length-append (omega arith); named = rw (get_or-append qs rs _ _ w) f.named }
 
-pub not_again : (qs rest : List Queue) (q : Queue) (m : ℕ) → distinct (qs ++ q ∷ rest) ≡ true → Row m ≡ row_from 0 q.topic q.id qs → ⊥
+pub not_again : (qs rest : List Queue) (q : Queue) (m : ℕ) → distinct (qs ++ q ∷ rest) ≡ true → Some m ≡ row_from 0 q.topic q.id qs → ⊥
 not_again qs rest q m e f =
     let h = (from_found q.topic q.id 0 qs m (sym f)).1 in
     let w = h.within in

@@ -3,19 +3,19 @@ use Prim.Native.Nat.{ℕ, zero, suc, ◌+◌, ◌-◌, ◌≤◌}
 use mathlib.Core.Path.{◌≡◌, refl, sym, ◌∙◌}
 use mathlib.Core.Bool.{true}
 use mathlib.Core.List.{List, [], ◌∷◌, ◌++◌}
-use mathlib.Core.Option.{Option, none, some}
 use native.Mathlib.Omega.{arith}
 use native.Mathlib.Nat.{zero-add, suc-add}
 use lib.ListN.{length, take, drop, length-append, take-append-drop, drop_of_length-le}
 use lib.Seq.{drop-append-le, length-take-le, take-add}
 use borrow.Author.Tests.{le-leb}
+use Rattle.std.specs.Prelude.{Option, None, Some}
 use Rattle.codec.specs.Bytes.{little}
 use Rattle.codec.specs.Choice.{pick}
 use Rattle.codec.proofs.Parts.{part_left}
 use Rattle.codec.proofs.Fields.{field_left}
 use Rattle.directory.specs.Directory.{Queue, row_length, row_kind, row_id, row_queue, row_ok, before, rows_within}
-use Rattle.directory.proofs.Reading.{begun}
-use Rattle.directory.proofs.Chain.{nothing, rows_empty, rows_past, rows_first, split}
+use Rattle.directory.proofs.Reading.{nothing, begun}
+use Rattle.directory.proofs.Chain.{rows_empty, rows_past, rows_first, split}
 
 -- ---- one row, and what stands behind it
 
@@ -45,7 +45,7 @@ module _ (b r : List ℕ) (head : 8 ≤ length b) where
         rw (length_front, kind_front, id_front, le-leb 8 (length (b ++ r)) n, le-leb (row_length b) (length (b ++ r)) m, le-leb 8 (length b) head, le-leb (row_length b) (length b) fits)
 
 -- a row alone
-lone : (bytes : List ℕ) (size : ℕ) → row_ok bytes ≡ true → size ≡ row_length bytes → rows_within 1 (take size bytes) ≡ some (row_queue bytes ∷ [])
+lone : (bytes : List ℕ) (size : ℕ) → row_ok bytes ≡ true → size ≡ row_length bytes → rows_within 1 (take size bytes) ≡ Some (row_queue bytes ∷ [])
 unfolding pick before
 lone bytes size ok own =
     let g = begun bytes ok in
@@ -66,17 +66,17 @@ unfoldable after : List Queue → Option (List Queue) → Option (List Queue)
 after [] o = o
 after (q ∷ qs) o = before q (after qs o)
 
-after_none : (qs : List Queue) → after qs none ≡ none
+after_none : (qs : List Queue) → after qs None ≡ None
 unfolding after before
 after_none [] = refl
 after_none (q ∷ qs) = rw (after_none qs)
 
-after_some : (qs rs : List Queue) → after qs (some rs) ≡ some (qs ++ rs)
+after_some : (qs rs : List Queue) → after qs (Some rs) ≡ Some (qs ++ rs)
 unfolding after before
 after_some [] rs = refl
 after_some (q ∷ qs) rs = rw (after_some qs rs)
 
-rows_after : (n m : ℕ) (b r : List ℕ) (qs : List Queue) → rows_within n b ≡ some qs → rows_within (length qs + m) (b ++ r) ≡ after qs (rows_within m r)
+rows_after : (n m : ℕ) (b r : List ℕ) (qs : List Queue) → rows_within n b ≡ Some qs → rows_within (length qs + m) (b ++ r) ≡ after qs (rows_within m r)
 unfolding after pick
 rows_after zero m [] r qs e = let z : [] ≡ qs = cc (rows_empty 0) in rw (← z, zero-add)
 rows_after (suc n) m [] r qs e = let z : [] ≡ qs = cc (rows_empty (suc n)) in rw (← z, zero-add)
@@ -95,23 +95,23 @@ rows_after (suc n) m (x ∷ l) r qs e =
 pub record Onward (m : ℕ) (r : List ℕ) (qs all : List Queue) : Type 0 where
   pub rest : List Queue
   pub whole : all ≡ qs ++ rest
-  pub made : rows_within m r ≡ some rest
+  pub made : rows_within m r ≡ Some rest
 
-module _ (l : List ℕ) (at rows : ℕ) (qs : List Queue) (made : rows_within rows (take at l) ≡ some qs) (many : length qs ≡ rows) where
-  pub onward : (all : List Queue) → rows ≤ 16 → rows_within 16 l ≡ some all → Onward (16 - rows) (drop at l) qs all
+module _ (l : List ℕ) (at rows : ℕ) (qs : List Queue) (made : rows_within rows (take at l) ≡ Some qs) (many : length qs ≡ rows) where
+  pub onward : (all : List Queue) → rows ≤ 16 → rows_within 16 l ≡ Some all → Onward (16 - rows) (drop at l) qs all
   onward all few e = go (rows_within (16 - rows) (drop at l)) refl
     where
       k : rows + (16 - rows) ≡ 16
       k = omega arith
 
-      a : some all ≡ after qs (rows_within (16 - rows) (drop at l))
+      a : Some all ≡ after qs (rows_within (16 - rows) (drop at l))
       a = sym e ∙ rw (many, k, take-append-drop) at (rows_after rows (16 - rows) (take at l) (drop at l) qs made)
 
       go : (o : Option (List Queue)) → rows_within (16 - rows) (drop at l) ≡ o → Onward (16 - rows) (drop at l) qs all
-      go none f = absurd (nothing (sym (rw (f, after_none qs) at a)))
-      go (some rest) f = let w = rw (f, after_some qs rest) at a in record { rest = rest; whole = cc; made = f }
+      go None f = absurd (nothing (sym (rw (f, after_none qs) at a)))
+      go (Some rest) f = let w = rw (f, after_some qs rest) at a in record { rest = rest; whole = cc; made = f }
 
-  pub one_more : (size : ℕ) → row_ok (drop at l) ≡ true → size ≡ row_length (drop at l) → rows_within (rows + 1) (take (at + size) l) ≡ some (qs ++ row_queue (drop at l) ∷ [])
+  pub one_more : (size : ℕ) → row_ok (drop at l) ≡ true → size ≡ row_length (drop at l) → rows_within (rows + 1) (take (at + size) l) ≡ Some (qs ++ row_queue (drop at l) ∷ [])
   one_more size ok own =
       rw (← many, take-add at size l)
       (rows_after rows 1 (take at l) (take size (drop at l)) qs made ∙ rw (lone (drop at l) size ok own) (after_some qs (row_queue (drop at l) ∷ [])))

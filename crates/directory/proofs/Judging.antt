@@ -1,23 +1,19 @@
 -- The directory gone through row by row: what holds at each turn. Assumes nothing.
 use Prim.Native.Nat.{ℕ, suc, ◌+◌, ◌-◌, ◌≤◌, ◌<◌}
 use mathlib.Core.Path.{◌≡◌, refl, sym, ap, ◌∙◌}
-use mathlib.Core.Bool.{true}
+use mathlib.Core.Bool.{Bool, true, false, not, true≢false}
 use mathlib.Core.List.{List, [], ◌∷◌, ◌++◌}
-use mathlib.Core.Option.{some}
 use native.Mathlib.Omega.{arith}
+use lib.Dec.{eqb}
 use lib.ListN.{length, get_or, take, drop, set, replicate, length-append, length-drop, length-set}
 use lib.Seq.{take_all}
-use Rattle.codec.specs.Bytes.{little, field, part}
-use Rattle.codec.specs.Choice.{pick}
-use Rattle.codec.proofs.Choices.{held}
-use Rattle.codec.proofs.Parts.{part_drop, length_part}
-use Rattle.directory.specs.declared.RowCount.TheVariants.{Refused, Rows}
-use Rattle.directory.specs.declared.Located.{Located}
-use Rattle.directory.specs.declared.Located.TheVariants.{Unlisted, Row}
-use Rattle.directory.specs.Directory.{Queue, row_length, row_queue, row_ok, rows_within, row_from, distinct, queues, row_count}
-use Rattle.directory.specs.Inner.{row_size, rows_of, InRows, Sized, bucket_of}
-use Rattle.directory.proofs.Reading.{begun, id_at}
-use Rattle.directory.proofs.Chain.{nothing, rows_empty, rows_past, split, rows_up, rows_of_is, in_rows}
+use borrow.Author.Tests.{eqb-true, eqb-false}
+use Rattle.std.specs.Prelude.{Option, None, Some, is_some}
+use Rattle.std.specs.Bool.{then_some}
+use Rattle.directory.specs.Directory.{Queue, row_queue, row_ok, rows_within, row_from, distinct, queues, row_count}
+use Rattle.directory.specs.Inner.{row_size, rows_of, InRows, Begins, bucket_of}
+use Rattle.directory.proofs.Reading.{nothing, begins, size_some, size_ok}
+use Rattle.directory.proofs.Chain.{rows_empty, rows_past, split, rows_up, rows_of_is, in_rows}
 use Rattle.directory.proofs.Fronts.{Onward, onward, one_more}
 use Rattle.directory.proofs.Judged.{sound, none_listed, all_queues, all_listed}
 use Rattle.directory.proofs.Laws.{from_none}
@@ -26,17 +22,17 @@ use Rattle.directory.proofs.Meeting.{Met, met_none, met_more}
 
 -- ---- the rows so far
 
-pub record Noting (l : List ℕ) (at rows : ℕ) (met : List ℕ) : Type 0 where
+pub record Noting (l : List ℕ) (at rows : ℕ) (met : List Bool) : Type 0 where
   pub qs : List Queue
   pub within : at ≤ length l
   pub few : rows ≤ 16
-  pub made : rows_within rows (take at l) ≡ some qs
+  pub made : rows_within rows (take at l) ≡ Some qs
   pub many : length qs ≡ rows
   pub apart : distinct qs ≡ true
   pub long : length met ≡ 16
   pub none : Met qs met
 
-pub noting_start : (l : List ℕ) → Noting l 0 0 (replicate 16 0)
+pub noting_start : (l : List ℕ) → Noting l 0 0 (replicate 16 false)
 unfolding distinct
 noting_start l =
     record {
@@ -47,11 +43,11 @@ noting_start l =
       many = refl;
       apart = refl;
       long = refl;
-      none = met_none (replicate 16 0);
+      none = met_none (replicate 16 false);
     }
 
-module _ {l : List ℕ} {at rows : ℕ} {met : List ℕ} (g : Noting l at rows met) where
-  rows_made : rows_within 16 (take at l) ≡ some g.qs
+module _ {l : List ℕ} {at rows : ℕ} {met : List Bool} (g : Noting l at rows met) where
+  rows_made : rows_within 16 (take at l) ≡ Some g.qs
   rows_made = rows_up 16 rows (take at l) g.qs g.few g.made
 
   pub rows_before : InRows (take at l)
@@ -59,20 +55,18 @@ module _ {l : List ℕ} {at rows : ℕ} {met : List ℕ} (g : Noting l at rows m
 
   -- ---- nothing is left
   module _ (past : length l ≤ at) where
-    whole_made : rows_within 16 l ≡ some g.qs
+    whole_made : rows_within 16 l ≡ Some g.qs
     whole_made = rw (take_all at l past) at rows_made
 
     whole : queues l ≡ g.qs
     whole = all_queues l g.qs whole_made g.apart
 
-    pub refused_empty : rows ≡ 0 → Refused ≡ row_count l
-    refused_empty z =
-        let many = g.many in
-        let e = ap length whole in
-        none_listed l (λ p. omega arith)
-
-    pub accepted : (rows ≡ 0 → ⊥) → Rows rows ≡ row_count l
-    accepted z = all_listed l g.qs whole_made g.apart g.many z
+    pub finished : {r : Option ℕ} → r ≡ then_some (not (eqb rows 0)) rows → r ≡ row_count l
+    finished e = e ∙ go (eqb rows 0) refl
+      where
+        go : (t : Bool) → eqb rows 0 ≡ t → then_some (not t) rows ≡ row_count l
+        go true z = none_listed l (λ p. let e = ap length whole in let many = g.many in let n = eqb-true rows 0 z in omega arith)
+        go false z = all_listed l g.qs whole_made g.apart g.many (eqb-false rows 0 z)
 
   -- ---- a row has to follow
   module _ (inside : at < length l) where
@@ -82,7 +76,7 @@ module _ {l : List ℕ} {at rows : ℕ} {met : List ℕ} (g : Noting l at rows m
     behind : 0 < length (queues l) → Onward (16 - rows) (drop at l) g.qs (queues l)
     behind p = onward l at rows g.qs g.made g.many (queues l) g.few (sound l p).made
 
-    pub refused_full : rows ≡ 16 → Refused ≡ row_count l
+    pub refused_full : rows ≡ 16 → None ≡ row_count l
     refused_full e =
         let k : 16 - rows ≡ 0 = omega arith in
         none_listed l (λ p. nothing (sym (rows_past (drop at l) more) ∙ rw k at (behind p).made))
@@ -93,7 +87,7 @@ record Ahead (l : List ℕ) (at : ℕ) (qs : List Queue) : Type 0 where
   pub rest : List Queue
   pub whole : queues l ≡ qs ++ row_queue (drop at l) ∷ rest
 
-module _ {l : List ℕ} {at rows : ℕ} {met : List ℕ} (g : Noting l at rows met) (inside : at < length l) (room : rows ≡ 16 → ⊥) where
+module _ {l : List ℕ} {at rows : ℕ} {met : List Bool} (g : Noting l at rows met) (inside : at < length l) (room : rows ≡ 16 → ⊥) where
   ahead : 0 < length (queues l) → Ahead l at g.qs
   ahead p =
       let few = g.few in
@@ -102,98 +96,76 @@ module _ {l : List ℕ} {at rows : ℕ} {met : List ℕ} (g : Noting l at rows m
       let s = split (15 - rows) (drop at l) o.rest (more g inside) (rw k at o.made) in
       record { ok = s.ok; rest = s.rest; whole = o.whole ∙ ap (λ (r : List Queue). g.qs ++ r) s.all }
 
-  pub refused_bad : {size : ℕ} → size ≡ row_size (drop at l) → size ≡ 0 → Refused ≡ row_count l
-  unfolding row_size pick
-  refused_bad {size} e z = none_listed l (λ p. no (ahead p).ok)
-    where
-      no : row_ok (drop at l) ≡ true → ⊥
-      no a =
-          let low = (begun (drop at l) a).low in
-          let o : size ≡ row_length (drop at l) = rw a at e in
-          omega arith
+-- ---- a turn: what follows is lent, and begins with a row of this size that tells of this queue
 
--- ---- the row at a place
+abbrev pub lent : List ℕ → ℕ → List ℕ
+lent l at = take (length l - at) (drop at l)
 
-pub record Here (l : List ℕ) (at size : ℕ) : Type 0 where
-  pub ok : row_ok (drop at l) ≡ true
-  pub sized : Sized l at size
+lent_is : (l : List ℕ) (at : ℕ) → lent l at ≡ drop at l
+lent_is l at = take_all (length l - at) (drop at l) (rw length-drop (omega arith))
 
-pub here : {size : ℕ} (l : List ℕ) (at : ℕ) → at ≤ length l → size ≡ row_size (drop at l) → (size ≡ 0 → ⊥) → Here l at size
-unfolding row_size
-here {size} l at h e n =
-    let b = drop at l in
-    let s = held (row_ok b) (row_length b) 0 size (λ z. n (sym z)) (sym e) in
-    let g = begun b s.holds in
-    let o = s.rest in
-    let low = g.low in
-    let f = rw (length-drop at l) at g.fits in
-    record { ok = s.holds; sized = record { low = omega arith; fits = omega arith; own = sym o } }
+pub refused_bad : {l : List ℕ} {at rows : ℕ} {met : List Bool} → Noting l at rows met → at < length l → (rows ≡ 16 → ⊥) → None ≡ row_size (lent l at) → None ≡ row_count l
+refused_bad {l} {at} g inside room e = none_listed l (λ p. size_some (drop at l) (ahead g inside room p).ok (sym (rw (lent_is l at) at e)))
 
-module _ (l : List ℕ) (at size : ℕ) (z : Sized l at size) where
-  own_topic : take (at + size - (at + 8)) (drop (at + 8) l) ≡ (row_queue (drop at l)).topic
-  unfolding row_queue part
-  own_topic =
-      let e : at + size - (at + 8) ≡ size - 8 = omega arith in
-      rw (e, ← z.own) (sym (part_drop (size - 8) at 8 l))
-
-  own_length : length (row_queue (drop at l)).topic ≡ size - 8
-  unfolding row_queue
-  own_length = rw (← z.own, part_drop (size - 8) at 8 l) (length_part (size - 8) (at + 8) l (omega arith))
-
--- ---- a turn: the row at `at` has this size and id
-
-pub record Turn (l : List ℕ) (at rows : ℕ) (met : List ℕ) (size id : ℕ) : Type 0 where
+pub record Turn (l : List ℕ) (at rows : ℕ) (met : List Bool) (size : ℕ) (q : Queue) : Type 0 where
   pub noting : Noting l at rows met
   pub inside : at < length l
   pub room : rows ≡ 16 → ⊥
-  pub here : Here l at size
-  pub own : id ≡ field little 4 (at + 4) l
+  pub ok : row_ok (drop at l) ≡ true
+  pub sized : Begins (drop at l) size
+  pub own : q ≡ row_queue (drop at l)
 
-module _ {l : List ℕ} {at rows : ℕ} {met : List ℕ} {size id : ℕ} (t : Turn l at rows met size id) where
-  own_id : id ≡ (row_queue (drop at l)).id
-  unfolding row_queue
-  own_id = id_at l at t.own
+pub turn : {l : List ℕ} {at rows : ℕ} {met : List Bool} {size : ℕ} {q : Queue} {r : Option ℕ}
+    → Noting l at rows met → at < length l → (rows ≡ 16 → ⊥) → r ≡ row_size (lent l at) → r ≡ Some size → q ≡ row_queue (lent l at) → Turn l at rows met size q
+turn {l} {at} g inside room e f own =
+    let z = size_ok (drop at l) (rw (lent_is l at) at e) f in
+    record { noting = g; inside = inside; room = room; ok = z.0; sized = rw z.1 (begins (drop at l) z.0); own = rw (lent_is l at) at own }
 
-  sought : {r : Located} → r ≡ row_from 0 (take (at + size - (at + 8)) (drop (at + 8) l)) id (rows_of (take at l))
-      → r ≡ row_from 0 (row_queue (drop at l)).topic (row_queue (drop at l)).id t.noting.qs
-  sought e = e ∙ rw (own_topic l at size t.here.sized, own_id, rows_of_is (take at l) t.noting.qs (rows_made t.noting))
+module _ {l : List ℕ} {at rows : ℕ} {met : List Bool} {size : ℕ} {q : Queue} (t : Turn l at rows met size q) where
+  found_before : {r : Option ℕ} → r ≡ row_from 0 q.topic q.id (rows_of (take at l)) → r ≡ row_from 0 q.topic q.id t.noting.qs
+  found_before e = e ∙ rw (rows_of_is (take at l) t.noting.qs (rows_made t.noting))
 
-  pub refused_again : {m : ℕ} {r : Located} → r ≡ Row m → r ≡ row_from 0 (take (at + size - (at + 8)) (drop (at + 8) l)) id (rows_of (take at l))
-      → Refused ≡ row_count l
-  refused_again {m} e f =
-      none_listed l
-      (λ p. let a = ahead t.noting t.inside t.room p in not_again t.noting.qs a.rest (row_queue (drop at l)) m (rw a.whole at (sound l p).apart) (sym e ∙ sought f))
+  pub refused_again : {r : Option ℕ} {b : Bool} → r ≡ row_from 0 q.topic q.id (rows_of (take at l)) → b ≡ is_some r → b ≡ true → None ≡ row_count l
+  refused_again {r} e f g = go r (found_before e) (sym f ∙ g)
+    where
+      go : (r : Option ℕ) → r ≡ row_from 0 q.topic q.id t.noting.qs → is_some r ≡ true → None ≡ row_count l
+      go None e g = absurd (true≢false (sym g))
+      go (Some m) e g =
+          none_listed l
+          (λ p. let a = ahead t.noting t.inside t.room p in not_again t.noting.qs a.rest q m (rw (a.whole, ← t.own) at (sound l p).apart) e)
 
   -- no row so far has its topic and id
   abbrev pub New : Type 0
-  New = Absent (row_queue (drop at l)).topic (row_queue (drop at l)).id t.noting.qs
+  New = Absent q.topic q.id t.noting.qs
 
-  pub new_sought : {r : Located} → r ≡ Unlisted → r ≡ row_from 0 (take (at + size - (at + 8)) (drop (at + 8) l)) id (rows_of (take at l)) → New
-  new_sought e f = from_none (row_queue (drop at l)).topic (row_queue (drop at l)).id 0 t.noting.qs (sym (sought f) ∙ e)
+  pub new_sought : {r : Option ℕ} {b : Bool} → r ≡ row_from 0 q.topic q.id (rows_of (take at l)) → b ≡ is_some r → b ≡ false → New
+  new_sought {r} e f g = go r (found_before e) (sym f ∙ g)
+    where
+      go : (r : Option ℕ) → r ≡ row_from 0 q.topic q.id t.noting.qs → is_some r ≡ false → New
+      go None e g = from_none q.topic q.id 0 t.noting.qs (sym e)
+      go (Some m) e g = absurd (true≢false g)
 
-  module _ {k : ℕ} (place : k ≡ bucket_of (size - 8) id) where
-    own_bucket : k ≡ bucket_of (length (row_queue (drop at l)).topic) (row_queue (drop at l)).id
-    own_bucket = rw (own_length l at size t.here.sized, ← own_id) place
+  module _ {k : ℕ} (place : k ≡ bucket_of q) where
+    pub new_bucket : get_or met k false ≡ false → New
+    new_bucket e = t.noting.none q (rw place at e)
 
-    pub new_bucket : get_or met k 0 ≡ 0 → New
-    new_bucket e = t.noting.none (row_queue (drop at l)).topic (row_queue (drop at l)).id (rw own_bucket at e)
-
-    pub noting_on : {v : ℕ} → k < 16 → 0 < v → New → Noting l (at + size) (rows + 1) (set met k v)
-    noting_on {v} low e new =
+    pub noting_on : k < 16 → New → Noting l (at + size) (rows + 1) (set met k true)
+    noting_on low new =
         let g = t.noting in
         let few = g.few in
         let many = g.many in
-        let z = t.here.sized in
+        let z = t.sized in
+        let fits = rw length-drop at z.fits in
+        let inside = t.inside in
         let room = t.room in
-        let q = row_queue (drop at l) in
-        let long : k < length met = rw g.long low in
+        let long : bucket_of q < length met = rw (g.long, ← place) low in
         record {
           qs = g.qs ++ q ∷ [];
-          within = z.fits;
+          within = omega arith;
           few = omega (arith, room);
-          made = one_more l at rows g.qs g.made many size t.here.ok z.own;
+          made = rw t.own (one_more l at rows g.qs g.made many size t.ok z.own);
           many = rw length-append (omega arith);
           apart = apart_more g.qs q g.apart new;
           long = rw length-set g.long;
-          none = met_more g.qs q met k v long e own_bucket g.none;
+          none = rw place (met_more g.qs q met long g.none);
         }

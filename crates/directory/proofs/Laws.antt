@@ -3,26 +3,24 @@ use Prim.Native.Nat.{ℕ, zero, suc, ◌+◌, ◌-◌, ◌≤◌, ◌<◌}
 use mathlib.Core.Path.{◌≡◌, refl, sym, ap, ◌∙◌}
 use mathlib.Core.Bool.{Bool, true, false, not}
 use mathlib.Core.List.{List, [], ◌∷◌}
-use mathlib.Core.Option.{some}
 use native.Mathlib.Omega.{arith}
 use lib.Dec.{eqb}
 use lib.ListN.{length, drop}
 use borrow.Author.Tests.{eqb-true, eq-eqb}
+use Rattle.std.specs.Prelude.{Option, None, Some}
 use Rattle.codec.specs.Bytes.{same}
 use Rattle.codec.specs.Choice.{pick}
 use Rattle.codec.proofs.Equal.{same_refl, same_true}
-use Rattle.directory.specs.declared.RowCount.TheVariants.{Refused, Rows}
-use Rattle.directory.specs.declared.Located.{Located}
-use Rattle.directory.specs.declared.Located.TheVariants.{Unlisted, Row}
 use Rattle.directory.specs.Claims.{Fits, ListingRows, ListingRefused, RowFound, RowNone, OneRow, RowsDiffer}
 use Rattle.directory.specs.Directory.{Queue, row_length, rows_within, row, names, row_from, listed, distinct, queues, counted, row_count, row_of}
 use Rattle.codec.proofs.Choices.{both}
-use Rattle.directory.proofs.Chain.{nothing, rows_past, split}
-use Rattle.directory.proofs.Judged.{sound, not_refused}
+use Rattle.directory.proofs.Reading.{nothing}
+use Rattle.directory.proofs.Chain.{rows_past, split}
+use Rattle.directory.proofs.Judged.{sound}
 
 -- ---- how many rows
 
-rows_few : (n : ℕ) (bytes : List ℕ) (qs : List Queue) → rows_within n bytes ≡ some qs → length qs ≤ n
+pub rows_few : (n : ℕ) (bytes : List ℕ) (qs : List Queue) → rows_within n bytes ≡ Some qs → length qs ≤ n
 unfolding rows_within pick
 rows_few zero [] qs e = let m : [] ≡ qs = cc in omega (arith, ap length m)
 rows_few (suc n) [] qs e = let m : [] ≡ qs = cc in omega (arith, ap length m)
@@ -36,8 +34,8 @@ pub listing_rows : ListingRows
 unfolding row_count counted
 listing_rows d n e = go (queues d) e (λ h. rows_few 16 d (queues d) (sound d h).made)
   where
-    go : (qs : List Queue) → counted qs ≡ Rows n → (0 < length qs → length qs ≤ 16) → (length qs ≡ n) × (0 < n) × (n ≤ 16)
-    go [] e h = absurd (not_refused e)
+    go : (qs : List Queue) → counted qs ≡ Some n → (0 < length qs → length qs ≤ 16) → (length qs ≡ n) × (0 < n) × (n ≤ 16)
+    go [] e h = absurd (nothing e)
     go (q ∷ qs) e h =
         let m : length (q ∷ qs) ≡ n = cc in
         let k = h (omega arith) in
@@ -47,9 +45,9 @@ pub listing_refused : ListingRefused
 unfolding row_count counted
 listing_refused d e = go (queues d) e
   where
-    go : (qs : List Queue) → counted qs ≡ Refused → qs ≡ []
+    go : (qs : List Queue) → counted qs ≡ None → qs ≡ []
     go [] e = refl
-    go (q ∷ qs) e = absurd (not_refused (sym e))
+    go (q ∷ qs) e = absurd (nothing (sym e))
 
 -- ---- which row
 
@@ -63,22 +61,19 @@ named topic id q e =
     let b = both (eqb q.id id) (same q.topic topic) e in
     (same_true q.topic topic b.1, eqb-true q.id id b.0)
 
-not_unlisted : {i : ℕ} → Unlisted ≡ Row i → ⊥
-not_unlisted e = let z : ◌≡◌ {A = ℕ} 0 1 = cc in omega arith
-
-pub unlisted : (r : Located) → not (listed r) ≡ true → r ≡ Unlisted
+pub unlisted : (r : Option ℕ) → not (listed r) ≡ true → r ≡ None
 unfolding listed
-unlisted Unlisted e = refl
-unlisted (Row i) e = cc
+unlisted None e = refl
+unlisted (Some i) e = cc
 
 module _ (topic : List ℕ) (id : ℕ) where
-  pub from_found : (n : ℕ) (qs : List Queue) (i : ℕ) → row_from n topic id qs ≡ Row i → (n ≤ i) × Fits topic id qs (i - n)
+  pub from_found : (n : ℕ) (qs : List Queue) (i : ℕ) → row_from n topic id qs ≡ Some i → (n ≤ i) × Fits topic id qs (i - n)
   unfolding row_from pick
-  from_found n [] i e = absurd (not_unlisted e)
+  from_found n [] i e = absurd (nothing e)
   from_found n (q ∷ qs) i e = go (names topic id q) refl e (from_found (n + 1) qs i)
     where
-      go : (t : Bool) → names topic id q ≡ t → pick t (Row n) (row_from (n + 1) topic id qs) ≡ Row i
-          → (row_from (n + 1) topic id qs ≡ Row i → (n + 1 ≤ i) × Fits topic id qs (i - (n + 1))) → (n ≤ i) × Fits topic id (q ∷ qs) (i - n)
+      go : (t : Bool) → names topic id q ≡ t → pick t (Some n) (row_from (n + 1) topic id qs) ≡ Some i
+          → (row_from (n + 1) topic id qs ≡ Some i → (n + 1 ≤ i) × Fits topic id qs (i - (n + 1))) → (n ≤ i) × Fits topic id (q ∷ qs) (i - n)
       go true f e ih =
           let m : n ≡ i = cc in
           let z : i - n ≡ 0 = omega arith in
@@ -90,14 +85,14 @@ module _ (topic : List ℕ) (id : ℕ) where
           let z : i - n ≡ suc (i - (n + 1)) = omega arith in
           (omega arith, rw z (record { within = omega arith; named = h.1.named }))
 
-  pub from_none : (n : ℕ) (qs : List Queue) → row_from n topic id qs ≡ Unlisted → (i : ℕ) → Fits topic id qs i → ⊥
+  pub from_none : (n : ℕ) (qs : List Queue) → row_from n topic id qs ≡ None → (i : ℕ) → Fits topic id qs i → ⊥
   unfolding row_from pick
   from_none n [] e i g = omega arith
   from_none n (q ∷ qs) e i g = go (names topic id q) refl e (from_none (n + 1) qs) i g
     where
-      go : (t : Bool) → names topic id q ≡ t → pick t (Row n) (row_from (n + 1) topic id qs) ≡ Unlisted
-          → (row_from (n + 1) topic id qs ≡ Unlisted → (i : ℕ) → Fits topic id qs i → ⊥) → (i : ℕ) → Fits topic id (q ∷ qs) i → ⊥
-      go true f e ih i g = not_unlisted (sym e)
+      go : (t : Bool) → names topic id q ≡ t → pick t (Some n) (row_from (n + 1) topic id qs) ≡ None
+          → (row_from (n + 1) topic id qs ≡ None → (i : ℕ) → Fits topic id qs i → ⊥) → (i : ℕ) → Fits topic id (q ∷ qs) i → ⊥
+      go true f e ih i g = nothing (sym e)
       go false f e ih zero g = let z : ◌≡◌ {A = ℕ} 0 1 = cc in omega arith
       go false f e ih (suc i) g = let h = g.within in ih e i (record { within = omega arith; named = g.named })
 

@@ -1,21 +1,24 @@
--- The row that bytes begin with, and the fields of the row at a place. Assumes nothing.
-use Prim.Native.Nat.{ℕ, ◌+◌, ◌-◌, ◌≤◌, ◌<◌}
-use mathlib.Core.Path.{◌≡◌, sym, ◌∙◌}
+-- The row that bytes begin with: its length as it is judged, its queue as it is read and compared. Assumes nothing.
+use Prim.Native.Nat.{ℕ, ◌-◌, ◌≤◌, ◌<◌}
+use mathlib.Core.Path.{◌≡◌, refl, sym, ◌∙◌}
 use mathlib.Core.Bool.{Bool, true, false, ◌&&◌, and-false}
 use mathlib.Core.List.{List}
 use native.Mathlib.Omega.{arith}
-use native.Mathlib.Nat.{add-zero}
 use lib.Dec.{eqb, leb, ltb}
-use lib.ListN.{length, drop, length-drop}
+use lib.ListN.{length, take, drop}
+use lib.Seq.{take_all}
 use borrow.Author.Tests.{leb-true, le-leb, lt-leb, eq-eqb, ne_eqb}
+use Rattle.std.specs.Prelude.{Option, None, Some, IfSome}
+use Rattle.std.specs.Bool.{then_some}
 use Rattle.codec.specs.Bytes.{little, field, part, same}
 use Rattle.codec.specs.Choice.{pick}
-use Rattle.codec.proofs.Parts.{part_drop, length_part}
-use Rattle.codec.proofs.Fields.{field_drop}
 use Rattle.codec.proofs.Equal.{same_lengths}
-use Rattle.directory.specs.Directory.{row_length, row_kind, row_id, row_queue, kind_ok, row_ok, names}
-use Rattle.directory.specs.Inner.{row_size, Sized}
 use Rattle.codec.proofs.Choices.{both}
+use Rattle.directory.specs.Directory.{Queue, row_length, row_kind, row_id, row_queue, kind_ok, row_ok, names}
+use Rattle.directory.specs.Inner.{row_size, Begins}
+
+pub nothing : {A : Type 0} {x : A} → None ≡ Some x → ⊥
+nothing e = let z : ◌≡◌ {A = ℕ} 0 1 = cc in omega arith
 
 -- what a row that is in order shows
 pub record Begun (bytes : List ℕ) : Type 0 where
@@ -40,49 +43,67 @@ begun bytes e =
       fits = leb-true l n c.1;
     }
 
-module _ (l : List ℕ) (at : ℕ) where
-  length_at : {size : ℕ} → size ≡ field little 2 at l → size ≡ row_length (drop at l)
-  unfolding row_length
-  length_at e = e ∙ sym (rw add-zero at (field_drop little 2 at 0 l))
+pub begins : (bytes : List ℕ) → row_ok bytes ≡ true → Begins bytes (row_length bytes)
+begins bytes e = let g = begun bytes e in record { low = g.low; fits = g.fits; own = refl }
 
-  pub sized_at : Sized l at (row_length (drop at l)) → {size : ℕ} → size ≡ field little 2 at l → Sized l at size
-  sized_at z e = rw (length_at e) z
+-- the row's queue, as it is read
+pub queue_read : (bytes : List ℕ) {size id : ℕ} → size ≡ row_length bytes → id ≡ field little 4 4 bytes → record { topic = take (size - 8) (drop 8 bytes); id = id } ≡ row_queue bytes
+unfolding row_queue row_id part
+queue_read bytes own e = rw (e, own)
 
-  pub id_at : {id : ℕ} → id ≡ field little 4 (at + 4) l → id ≡ row_id (drop at l)
-  unfolding row_id
-  id_at e = e ∙ sym (field_drop little 4 at 4 l)
+-- ---- the length of the row, as the tests have it
 
-  -- the length of the row, as the tests have it
-  pub size_short : length l - at < 8 → 0 ≡ row_size (drop at l)
+module _ (bytes : List ℕ) where
+  pub size_short : length bytes < 8 → None ≡ row_size bytes
   unfolding row_size row_ok pick
-  size_short h = rw (length-drop at l, lt-leb 8 (length l - at) h)
+  size_short h = rw (lt-leb 8 (length bytes) h)
 
-  pub size_judged : {size kind id : ℕ} (t : Bool)
-      → 8 ≤ length l - at
-      → size ≡ field little 2 at l
-      → kind ≡ field little 2 (at + 2) l
-      → id ≡ field little 4 (at + 4) l
-      → (leb 9 size && leb size 135 && leb size (length l - at) && (eqb kind 1 && ltb id 2147483648)) ≡ t
-      → pick t size 0 ≡ row_size (drop at l)
-  unfolding row_size row_ok row_kind kind_ok
-  size_judged t h es ek ei e =
-      rw (← length_at es, ← id_at ei, field_drop little 2 at 2 l, ← ek, length-drop at l, le-leb 8 (length l - at) h, e)
+  chosen : (t : Bool) (size : ℕ) → then_some t size ≡ pick t (Some size) None
+  unfolding pick
+  chosen true size = refl
+  chosen false size = refl
 
-  -- whether the row names a topic and id, as the tests have it
-  module _ (topic : List ℕ) (id : ℕ) where
-    pub names_other : {own : ℕ} → own ≡ field little 4 (at + 4) l → (own ≡ id → ⊥) → false ≡ names topic id (row_queue (drop at l))
-    unfolding names row_queue
-    names_other e d = rw (← id_at e, ne_eqb _ id d)
+  pub size_judged : {size kind id : ℕ} {r : Option ℕ}
+      → 8 ≤ length bytes
+      → size ≡ field little 2 0 bytes
+      → kind ≡ field little 2 2 bytes
+      → id ≡ field little 4 4 bytes
+      → r ≡ then_some (leb 9 size && leb size 135 && leb size (length bytes) && (eqb kind 1 && ltb id 2147483648)) size
+      → r ≡ row_size bytes
+  unfolding row_size row_ok row_length row_kind row_id kind_ok
+  size_judged h es ek ei e = e ∙ rw (chosen, es, ek, ei, le-leb 8 (length bytes) h)
 
-    module _ (size : ℕ) (n : Sized l at size) where
-      pub names_longer : (size - 8 ≡ length topic → ⊥) → false ≡ names topic id (row_queue (drop at l))
-      unfolding names row_queue
-      names_longer d =
-          let k = length_part (size - 8) (at + 8) l (omega arith) in
-          rw (← n.own, part_drop (size - 8) at 8 l, same_lengths (part (size - 8) (at + 8) l) topic (λ e. d (sym k ∙ e)))
-          (sym (and-false (eqb (row_id (drop at l)) id)))
+  -- what was judged to be a row is one, and a row is judged so
+  pub size_some : row_ok bytes ≡ true → row_size bytes ≡ None → ⊥
+  unfolding row_size pick
+  size_some ok e = let n : Some (row_length bytes) ≡ None = rw ok at e in nothing (sym n)
 
-      pub names_same : {r : Bool} {own : ℕ} → own ≡ field little 4 (at + 4) l → own ≡ id → size - 8 ≡ length topic
-          → r ≡ same (part (length topic) (at + 8) l) topic → r ≡ names topic id (row_queue (drop at l))
-      unfolding names row_queue
-      names_same f g h e = e ∙ rw (← n.own, part_drop (size - 8) at 8 l, h, ← id_at f, eq-eqb _ id g)
+  pub size_ok : {size : ℕ} {r : Option ℕ} → r ≡ row_size bytes → r ≡ Some size → (row_ok bytes ≡ true) × (size ≡ row_length bytes)
+  unfolding row_size pick
+  size_ok {size} e f = go (row_ok bytes) (sym e ∙ f)
+    where
+      go : (t : Bool) → pick t (Some (row_length bytes)) None ≡ Some size → (t ≡ true) × (size ≡ row_length bytes)
+      go true g = (refl, cc)
+      go false g = cc
+
+  pub size_begins : {r : Option ℕ} → r ≡ row_size bytes → IfSome r (Begins bytes)
+  size_begins {r} e = go r e
+    where
+      go : (r : Option ℕ) → r ≡ row_size bytes → IfSome r (Begins bytes)
+      go None f = tt
+      go (Some n) f = let z = size_ok f refl in rw z.1 (begins bytes z.0)
+
+-- ---- whether the row names a topic and id, as the tests have it
+
+module _ (topic : List ℕ) (id : ℕ) (q : Queue) where
+  pub names_other : (q.id ≡ id → ⊥) → false ≡ names topic id q
+  unfolding names
+  names_other d = rw (ne_eqb q.id id d)
+
+  pub names_longer : (length q.topic ≡ length topic → ⊥) → false ≡ names topic id q
+  unfolding names
+  names_longer d = rw (same_lengths q.topic topic d) (sym (and-false (eqb q.id id)))
+
+  pub names_same : {r : Bool} → q.id ≡ id → length q.topic ≡ length topic → r ≡ same (part (length topic) 0 q.topic) topic → r ≡ names topic id q
+  unfolding names part
+  names_same f g e = e ∙ rw (eq-eqb q.id id f, take_all (length topic) q.topic (omega arith))

@@ -1,40 +1,31 @@
--- Looking for a topic and id row by row: what holds at each turn. Assumes nothing.
-use Prim.Native.Nat.{ℕ, ◌+◌, ◌≤◌, ◌<◌}
-use mathlib.Core.Path.{◌≡◌, sym, ◌∙◌}
-use mathlib.Core.Bool.{Bool, true, false}
-use mathlib.Core.List.{List, []}
+-- Looking for a topic and id: the row's number is its place among the queues. Assumes nothing.
+use Prim.Native.Nat.{ℕ, ◌+◌, ◌^◌, ◌<◌}
+use mathlib.Core.Path.{◌≡◌, refl, ◌∙◌}
+use mathlib.Core.Bool.{Bool, true, false, cond}
+use mathlib.Core.List.{List, [], ◌∷◌}
 use native.Mathlib.Omega.{arith}
-use lib.ListN.{length, drop, drop_of_length-le}
+use lib.ListN.{length}
+use Rattle.std.specs.Prelude.{Some}
+use Rattle.std.specs.List.{position, position_from}
+use Rattle.std.proofs.lemmas.Iterator.Adapters.{position_from-zero}
 use Rattle.codec.specs.Choice.{pick}
-use Rattle.directory.specs.declared.Located.TheVariants.{Unlisted, Row}
-use Rattle.directory.specs.Directory.{row_queue, names, row_from}
-use Rattle.directory.specs.Inner.{rows_made, rows_of, InRows, Sized}
-use Rattle.directory.proofs.Chain.{rows_empty, next}
+use Rattle.directory.specs.Directory.{Queue, names, row_from}
+use Rattle.directory.specs.Inner.{rows_of, InRows}
+use Rattle.directory.proofs.Laws.{rows_few}
 
-rows_end : (l : List ℕ) (at : ℕ) → length l ≤ at → rows_of (drop at l) ≡ []
-unfolding rows_of rows_made
-rows_end l at h = rw (drop_of_length-le l h, rows_empty 16)
+-- the rows are few enough to be numbered
+pub rows_fit : (bytes : List ℕ) → InRows bytes → 0 + length (rows_of bytes) < 2 ^ 64
+rows_fit bytes made = let h = rows_few 16 bytes (rows_of bytes) made in omega arith
 
-pub record Seeking (l topic : List ℕ) (id place number : ℕ) : Type 0 where
-  pub within : place ≤ length l
-  pub few : number ≤ place
-  pub made : InRows (drop place l)
-  pub rest : row_from number topic id (rows_of (drop place l)) ≡ row_from 0 topic id (rows_of l)
+module _ (topic : List ℕ) (id : ℕ) where
+  sought_from : (n : ℕ) (qs : List Queue) → position_from (names topic id) n qs ≡ row_from n topic id qs
+  unfolding row_from pick
+  sought_from n [] = refl
+  sought_from n (q ∷ qs) = rw (sought_from (n + 1) qs) (go (names topic id q))
+    where
+      go : (t : Bool) → cond t (Some n) (row_from (n + 1) topic id qs) ≡ pick t (Some n) (row_from (n + 1) topic id qs)
+      go true = refl
+      go false = refl
 
-module _ (l topic : List ℕ) (id place number : ℕ) (g : Seeking l topic id place number) where
-  module _ (inside : place < length l) (size : ℕ) (z : Sized l place size) where
-    pub seeking_found : {t : Bool} → t ≡ true → t ≡ names topic id (row_queue (drop place l)) → Row number ≡ row_from 0 topic id (rows_of l)
-    unfolding row_from pick
-    seeking_found e f = rw ((next l place inside g.made z.own).all, sym f ∙ e) at g.rest
-
-    pub seeking_on : {t : Bool} → t ≡ false → t ≡ names topic id (row_queue (drop place l)) → Seeking l topic id (place + size) (number + 1)
-    unfolding row_from pick
-    seeking_on e f =
-        let n = next l place inside g.made z.own in
-        let low = z.low in
-        let few = g.few in
-        record { within = z.fits; few = omega arith; made = n.rest; rest = rw (n.all, sym f ∙ e) at g.rest }
-
-  pub seeking_end : length l ≤ place → Unlisted ≡ row_from 0 topic id (rows_of l)
-  unfolding row_from
-  seeking_end h = rw (rows_end l place h) at g.rest
+  pub sought : (qs : List Queue) → position (names topic id) qs ≡ row_from 0 topic id qs
+  sought qs = position_from-zero (names topic id) qs ∙ sought_from 0 qs

@@ -1,7 +1,5 @@
 -- What callers of the directory may rely on, as statements. Assumes nothing.
-use Rattle.std.specs.Prelude.{ℕ, ◌≤◌, ◌<◌, ◌≡◌, true, List, [], length}
-use Rattle.directory.specs.declared.RowCount.TheVariants.{Refused, Rows}
-use Rattle.directory.specs.declared.Located.TheVariants.{Unlisted, Row}
+use Rattle.std.specs.Prelude.{ℕ, ◌≤◌, ◌<◌, ◌≡◌, true, None, Some, List, [], length}
 use Rattle.directory.specs.Directory.{Queue, names, row, queues, row_count, row_of}
 
 -- row i is there, and has this topic and id
@@ -11,18 +9,18 @@ pub record Fits (topic : List ℕ) (id : ℕ) (qs : List Queue) (i : ℕ) : Type
 
 -- "Queues: 1 to 16": a directory that is not refused has as many rows as it says
 abbrev pub ListingRows : Type 0
-ListingRows = (d : List ℕ) (n : ℕ) → row_count d ≡ Rows n → (length (queues d) ≡ n) × (0 < n) × (n ≤ 16)
+ListingRows = (d : List ℕ) (n : ℕ) → row_count d ≡ Some n → (length (queues d) ≡ n) × (0 < n) × (n ≤ 16)
 
 abbrev pub ListingRefused : Type 0
-ListingRefused = (d : List ℕ) → row_count d ≡ Refused → queues d ≡ []
+ListingRefused = (d : List ℕ) → row_count d ≡ None → queues d ≡ []
 
 -- the row that is found fits
 abbrev pub RowFound : Type 0
-RowFound = (topic : List ℕ) (id : ℕ) (d : List ℕ) (i : ℕ) → row_of topic id d ≡ Row i → Fits topic id (queues d) i
+RowFound = (topic : List ℕ) (id : ℕ) (d : List ℕ) (i : ℕ) → row_of topic id d ≡ Some i → Fits topic id (queues d) i
 
 -- where none is found, none fits
 abbrev pub RowNone : Type 0
-RowNone = (topic : List ℕ) (id : ℕ) (d : List ℕ) → row_of topic id d ≡ Unlisted → (i : ℕ) → Fits topic id (queues d) i → ⊥
+RowNone = (topic : List ℕ) (id : ℕ) (d : List ℕ) → row_of topic id d ≡ None → (i : ℕ) → Fits topic id (queues d) i → ⊥
 
 -- at most one row fits
 abbrev pub OneRow : Type 0

@@ -1,12 +1,7 @@
 -- The directory of queues: document 01, section "Directory". Assumes nothing.
-use Rattle.std.specs.Prelude.{ℕ, zero, suc, ◌+◌, ◌-◌, Bool, true, false, not, ◌&&◌, List, [], ◌∷◌, eqb, leb, ltb, length, drop, get_or}
-use Rattle.std.proofs.Math.Option.{Option, none, some}
+use Rattle.std.specs.Prelude.{ℕ, zero, suc, ◌+◌, ◌-◌, Bool, true, false, not, ◌&&◌, Option, None, Some, List, [], ◌∷◌, eqb, leb, ltb, length, drop, get_or}
 use Rattle.codec.specs.Bytes.{little, field, part, same}
 use Rattle.codec.specs.Choice.{pick}
-use Rattle.directory.specs.declared.RowCount.{RowCount}
-use Rattle.directory.specs.declared.RowCount.TheVariants.{Refused, Rows}
-use Rattle.directory.specs.declared.Located.{Located}
-use Rattle.directory.specs.declared.Located.TheVariants.{Unlisted, Row}
 
 -- a listed queue
 pub record Queue : Type 0 where
@@ -38,15 +33,15 @@ row_ok bytes =
     && (kind_ok (row_kind bytes) && ltb (row_id bytes) 2147483648)
 
 unfoldable pub before : Queue → Option (List Queue) → Option (List Queue)
-before q none = none
-before q (some qs) = some (q ∷ qs)
+before q None = None
+before q (Some qs) = Some (q ∷ qs)
 
 -- "Rows fill the buffer exactly": the queues of at most n rows, if the bytes are that
 unfoldable pub rows_within : ℕ → List ℕ → Option (List Queue)
-rows_within zero bytes = pick (eqb (length bytes) 0) (some []) none
+rows_within zero bytes = pick (eqb (length bytes) 0) (Some []) None
 rows_within (suc n) bytes =
-    pick (eqb (length bytes) 0) (some [])
-    (pick (row_ok bytes) (before (row_queue bytes) (rows_within n (drop (row_length bytes) bytes))) none)
+    pick (eqb (length bytes) 0) (Some [])
+    (pick (row_ok bytes) (before (row_queue bytes) (rows_within n (drop (row_length bytes) bytes))) None)
 
 -- the queue of row i; rows are counted from 0
 abbrev pub row : List Queue → ℕ → Queue
@@ -57,13 +52,13 @@ unfoldable pub names : List ℕ → ℕ → Queue → Bool
 names topic id q = eqb q.id id && same q.topic topic
 
 -- the number of the first row of this topic and id, the first row's number being n
-unfoldable pub row_from : ℕ → List ℕ → ℕ → List Queue → Located
-row_from n topic id [] = Unlisted
-row_from n topic id (q ∷ qs) = pick (names topic id q) (Row n) (row_from (n + 1) topic id qs)
+unfoldable pub row_from : ℕ → List ℕ → ℕ → List Queue → Option ℕ
+row_from n topic id [] = None
+row_from n topic id (q ∷ qs) = pick (names topic id q) (Some n) (row_from (n + 1) topic id qs)
 
-unfoldable pub listed : Located → Bool
-listed Unlisted = false
-listed (Row n) = true
+unfoldable pub listed : Option ℕ → Bool
+listed None = false
+listed (Some n) = true
 
 -- "no two name the same topic and id"
 unfoldable pub distinct : List Queue → Bool
@@ -72,21 +67,21 @@ distinct (q ∷ qs) = not (listed (row_from 0 q.topic q.id qs)) && distinct qs
 
 -- the listed queues, by row; none where the directory is bad
 unfoldable pub distinct_rows : Option (List Queue) → List Queue
-distinct_rows none = []
-distinct_rows (some qs) = pick (distinct qs) qs []
+distinct_rows None = []
+distinct_rows (Some qs) = pick (distinct qs) qs []
 
 -- "Queues: 1 to 16"
 unfoldable pub queues : List ℕ → List Queue
 queues directory = distinct_rows (rows_within 16 directory)
 
 -- "3: directory bad or not 1 to 16 rows"
-unfoldable pub counted : List Queue → RowCount
-counted [] = Refused
-counted (q ∷ qs) = Rows (length (q ∷ qs))
+unfoldable pub counted : List Queue → Option ℕ
+counted [] = None
+counted (q ∷ qs) = Some (length (q ∷ qs))
 
-unfoldable pub row_count : List ℕ → RowCount
+unfoldable pub row_count : List ℕ → Option ℕ
 row_count directory = counted (queues directory)
 
 -- "Row i owns region i of the queue buffer": the row of a topic and id
-unfoldable pub row_of : List ℕ → ℕ → List ℕ → Located
+unfoldable pub row_of : List ℕ → ℕ → List ℕ → Option ℕ
 row_of topic id directory = row_from 0 topic id (queues directory)

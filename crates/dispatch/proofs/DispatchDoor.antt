@@ -7,13 +7,12 @@ use native.Mathlib.Omega.{arith}
 use lib.Dec.{ltb}
 use lib.ListN.{length}
 use borrow.Author.Tests.{not-false}
+use Rattle.std.specs.Prelude.{Option, None, Some}
 use Rattle.codec.specs.Choice.{pick}
 use Rattle.codec.proofs.Choices.{both, neither}
 use Rattle.units.specs.declared.LogPosition.{LogPosition}
 use Rattle.units.specs.declared.Answer.{Answer}
 use Rattle.units.specs.declared.Answer.TheVariants.{BadSizes, BadPosition, BadDirectory, BadHeader, BudgetSpent}
-use Rattle.directory.specs.declared.RowCount.{RowCount}
-use Rattle.directory.specs.declared.RowCount.TheVariants.{Refused, Rows}
 use Rattle.commit_log.specs.Log.{geometry_ok, outside}
 use Rattle.commit_log.specs.Door.{GeometryFits}
 use Rattle.commit_log.proofs.LogDoor.{geometry_fits, within}
@@ -69,12 +68,12 @@ module _ (f : Fixed) (v : View) (s : State) where
   unfolding door_of pick
   door_sizes e = rw e
 
-  module _ (sizes : sizes_fit f.sizes (length v.log) (length s.index) ≡ true) {l : RowCount} (rows : l ≡ queue_rows f.directory f.sizes.queue_entries (length s.queues)) where
-    pub door_directory : l ≡ Refused → door_of f v s ≡ refused BadDirectory
+  module _ (sizes : sizes_fit f.sizes (length v.log) (length s.index) ≡ true) {l : Option ℕ} (rows : l ≡ queue_rows f.directory f.sizes.queue_entries (length s.queues)) where
+    pub door_directory : l ≡ None → door_of f v s ≡ refused BadDirectory
     unfolding door_of pick is_refused
     door_directory e = rw (sizes, ← rows, e)
 
-    module _ {n : ℕ} (listed : l ≡ Rows n) {bad : Bool} (progress : bad ≡ progress_bad f.sizes (length v.log) s.progress v.end s.counts) where
+    module _ {n : ℕ} (listed : l ≡ Some n) {bad : Bool} (progress : bad ≡ progress_bad f.sizes (length v.log) s.progress v.end s.counts) where
       pub door_position : bad ≡ true → door_of f v s ≡ refused BadPosition
       unfolding door_of pick is_refused
       door_position e = rw (sizes, ← rows, listed, ← progress, e)

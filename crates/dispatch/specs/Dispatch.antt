@@ -1,10 +1,8 @@
 -- Dispatch: the door of document 01, section "Answer numbers", and dispatch as a machine. Assumes nothing.
-use Rattle.std.specs.Prelude.{ℕ, Bool, true, false, not, ◌&&◌, ◌||◌, List, length}
+use Rattle.std.specs.Prelude.{ℕ, Bool, true, false, not, ◌&&◌, ◌||◌, Option, None, Some, List, length}
 use Rattle.codec.specs.Choice.{pick}
 use Rattle.units.specs.declared.Answer.TheVariants.{BadSizes, BadPosition, BadDirectory, BadHeader}
 use Rattle.units.specs.declared.LogPosition.{LogPosition}
-use Rattle.directory.specs.declared.RowCount.{RowCount}
-use Rattle.directory.specs.declared.RowCount.TheVariants.{Refused, Rows}
 use Rattle.commit_log.specs.Log.{geometry_ok, outside}
 use Rattle.consume_queue.specs.Queue.{entries_ok, queue_rows, counts_ok}
 use Rattle.index_file.specs.Index.{sizes_ok, header_sound}
@@ -24,9 +22,9 @@ sizes_fit z log index =
     geometry_ok z.geometry log && entries_ok z.queue_entries && sizes_ok z.index.slot_count z.index.item_count index
 
 -- 3: "directory bad or not 1 to 16 rows, or queue buffer not rows × R × 20"
-unfoldable pub is_refused : RowCount → Bool
-is_refused Refused = true
-is_refused (Rows n) = false
+unfoldable pub is_refused : Option ℕ → Bool
+is_refused None = true
+is_refused (Some n) = false
 
 -- 2: "position, readable end or entry count is bad"
 unfoldable pub progress_bad : Sizes → ℕ → Progress → LogPosition → List ℕ → Bool

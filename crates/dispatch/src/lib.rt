@@ -5,15 +5,13 @@ ghost use Rattle.std.specs.Prelude.{◌≡◌, ◌+◌, ◌<◌, ◌≤◌, leng
 ghost use Rattle.commit_log.specs.Door.{GeometryFits};
 ghost use Rattle.machine.specs.Steps.{run};
 ghost use Rattle.machine.specs.Calls.{call};
-ghost use Rattle.dispatch_request.specs.Request.{view_of};
-ghost use Rattle.dispatch_step.specs.Step.{fixed_of, state_of, step_of};
+ghost use Rattle.dispatch_step.specs.Step.{state_of, step_of};
 ghost use Rattle.dispatch_step.specs.Door.{Admitted};
-ghost use Rattle.dispatch_ahead.specs.Ahead.{RoomAhead};
+ghost use Rattle.dispatch_ahead.specs.Ahead.{fixed_in, view_in, RoomAhead};
 ghost use Rattle.dispatch.specs.Dispatch.{sizes_fit, progress_bad, dispatcher, call_of, ran_of};
 ghost use Rattle.dispatch.specs.Inner.{Runs};
 
-use directory::RowCount;
-use dispatch_ahead::Ended;
+use dispatch_ahead::{BATCH, Call, Ended, SHORT_BATCH, SHORT_LIST};
 use dispatch_request::DispatchRequest;
 use dispatch_step::{Progress, Sizes};
 use units::{Answer, LogPosition};
@@ -26,51 +24,34 @@ pub struct Dispatched {
     pub progress: Progress,
 }
 
-// How a run ends: as a call does, or before a record whose items the lent list has no places for.
+// The steps done before a record that has more items than the lent list has places, and the progress behind them.
 #[derive(Clone, Copy)]
-struct Ran {
-    ended: bool,
-    call: Dispatched,
-}
-
-fn ran_of(ended: bool, answer: Answer, steps: u64, progress: Progress) -> Ran
-    ensures { result ≡ record { ended = ended; call = record { answer = answer; steps = steps; progress = progress } } }
-{
-    Ran {
-        ended,
-        call: Dispatched {
-            answer,
-            steps,
-            progress,
-        },
-    }
+struct TooShort {
+    steps: u64,
+    progress: Progress,
 }
 
 // Steps, until the budget is spent, one is stopped, or the list is too short.
 fn run_steps(
-    log: &[u8],
-    readable_end: LogPosition,
-    sizes: Sizes,
-    directory: &[u8],
+    call: &Call<'_>,
     progress: Progress,
     counts: &mut [u64; 16],
     queues: &mut [u8],
     index: &mut [u8],
     budget: u64,
-    requests: &mut [u64],
+    requests: &mut [DispatchRequest],
     list: &mut [u32],
-) -> Ran
-    requires { Admitted (fixed_of sizes directory.now) (view_of log.now readable_end) (state_of progress counts.old queues.old index.old) × RoomAhead requests.old list.old }
-    ensures { Runs (fixed_of sizes directory.now) (view_of log.now readable_end) budget (length list.old) (state_of progress counts.old queues.old index.old) result counts.new queues.new index.new }
+) -> Result<Dispatched, TooShort>
+    requires { Admitted (fixed_in call.now) (view_in call.now) (state_of progress counts.old queues.old index.old) × RoomAhead requests.old list.old }
+    ensures { Runs (fixed_in call.now) (view_in call.now) budget (length list.old) (state_of progress counts.old queues.old index.old) result counts.new queues.new index.new }
 {
+    // A copy of its own: what is behind a reference would be read again behind every write.
+    let call = *call;
     let mut now = progress;
-    let mut steps: u64 = 0;
+    let mut steps = 0;
     while steps < budget {
         let advanced = dispatch_ahead::advance(
-            log,
-            readable_end,
-            sizes,
-            directory,
+            &call,
             now,
             counts,
             queues,
@@ -81,173 +62,119 @@ fn run_steps(
         );
         now = advanced.progress;
         steps += advanced.steps;
-        let ended = advanced.ended;
-        match ended {
+        match advanced.ended {
             Ended::Going => {}
             Ended::Stopped(answer) => {
-                return ran_of(true, answer, steps, now);
+                return Ok(Dispatched {
+                    answer,
+                    steps,
+                    progress: now,
+                });
             }
-            Ended::Long => {
-                return ran_of(false, Answer::Done, steps, now);
+            Ended::Long => return Err(TooShort {
+                steps,
+                progress: now,
+            }),
+        }
+    }
+    Ok(Dispatched {
+        answer: Answer::BudgetSpent,
+        steps,
+        progress: now,
+    })
+}
+
+// The same, with places for so many requests and hashes.
+fn run<const REQUESTS: usize, const PLACES: usize>(
+    call: &Call<'_>,
+    progress: Progress,
+    counts: &mut [u64; 16],
+    queues: &mut [u8],
+    index: &mut [u8],
+    budget: u64,
+) -> Result<Dispatched, TooShort>
+    requires { Admitted (fixed_in call.now) (view_in call.now) (state_of progress counts.old queues.old index.old) × (1 ≤ REQUESTS) × (REQUESTS ≤ 16) × (0 < PLACES) × (PLACES ≤ 16385) }
+    ensures { Runs (fixed_in call.now) (view_in call.now) budget PLACES (state_of progress counts.old queues.old index.old) result counts.new queues.new index.new }
+{
+    let mut requests = [DispatchRequest::NONE; REQUESTS];
+    let mut list = [0; PLACES];
+    run_steps(
+        call,
+        progress,
+        counts,
+        queues,
+        index,
+        budget,
+        &mut requests,
+        &mut list,
+    )
+}
+
+// Steps with a list for any record. It is never taken into its caller, so that its 64 KiB are on the stack only where they are used.
+#[inline(never)]
+fn run_long(
+    call: &Call<'_>,
+    progress: Progress,
+    counts: &mut [u64; 16],
+    queues: &mut [u8],
+    index: &mut [u8],
+    budget: u64,
+) -> Dispatched
+    requires { Admitted (fixed_in call.now) (view_in call.now) (state_of progress counts.old queues.old index.old) }
+    ensures { ran_of result counts.new queues.new index.new ≡ run (step_of (fixed_in call.now) (view_in call.now)) budget (state_of progress counts.old queues.old index.old) }
+{
+    let ran = run::<BATCH, { DispatchRequest::MOST_ITEMS }>(
+        call, progress, counts, queues, index, budget,
+    );
+    match ran {
+        Ok(ended) => ended,
+        Err(_) => unreachable!(),
+    }
+}
+
+// Steps with places for as many requests as they may take, up to 16, and a short list, which takes nearly every record.
+fn run_short(
+    call: &Call<'_>,
+    progress: Progress,
+    counts: &mut [u64; 16],
+    queues: &mut [u8],
+    index: &mut [u8],
+    budget: u64,
+) -> Result<Dispatched, TooShort>
+    requires { Admitted (fixed_in call.now) (view_in call.now) (state_of progress counts.old queues.old index.old) }
+    ensures { Runs (fixed_in call.now) (view_in call.now) budget SHORT_LIST (state_of progress counts.old queues.old index.old) result counts.new queues.new index.new }
+{
+    if budget <= SHORT_BATCH as u64 {
+        run::<SHORT_BATCH, SHORT_LIST>(call, progress, counts, queues, index, budget)
+    } else {
+        run::<BATCH, SHORT_LIST>(call, progress, counts, queues, index, budget)
+    }
+}
+
+// The steps of a call: from the first record that has more items than a short list has places, with one for any record.
+fn run_call(
+    call: &Call<'_>,
+    progress: Progress,
+    counts: &mut [u64; 16],
+    queues: &mut [u8],
+    index: &mut [u8],
+    budget: u64,
+) -> Dispatched
+    requires { Admitted (fixed_in call.now) (view_in call.now) (state_of progress counts.old queues.old index.old) }
+    ensures { ran_of result counts.new queues.new index.new ≡ run (step_of (fixed_in call.now) (view_in call.now)) budget (state_of progress counts.old queues.old index.old) }
+{
+    let ran = run_short(call, progress, counts, queues, index, budget);
+    match ran {
+        Ok(ended) => ended,
+        Err(done) => {
+            let left = budget - done.steps;
+            let rest = run_long(call, done.progress, counts, queues, index, left);
+            Dispatched {
+                steps: done.steps + rest.steps,
+                ..rest
             }
         }
     }
-    ran_of(true, Answer::BudgetSpent, steps, now)
-}
-
-// How a call ends whose rest, behind so many steps, ended so.
-fn behind(steps: u64, rest: Dispatched) -> Dispatched
-    requires { steps + rest.steps < 18446744073709551616 }
-    ensures { result ≡ record { answer = rest.answer; steps = steps + rest.steps; progress = rest.progress } }
-{
-    let answer = rest.answer;
-    let progress = rest.progress;
-    Dispatched {
-        answer,
-        steps: steps + rest.steps,
-        progress,
-    }
-}
-
-// Steps with a list for any record. It is a function of its own, and calls itself, so that its 64 KiB are on the stack only where they are used.
-fn run_long(
-    log: &[u8],
-    readable_end: LogPosition,
-    sizes: Sizes,
-    directory: &[u8],
-    progress: Progress,
-    counts: &mut [u64; 16],
-    queues: &mut [u8],
-    index: &mut [u8],
-    budget: u64,
-) -> Dispatched
-    requires { Admitted (fixed_of sizes directory.now) (view_of log.now readable_end) (state_of progress counts.old queues.old index.old) }
-    ensures { ran_of result counts.new queues.new index.new ≡ run (step_of (fixed_of sizes directory.now) (view_of log.now readable_end)) budget (state_of progress counts.old queues.old index.old) }
-{
-    let mut requests = [0u64; dispatch_ahead::REQUESTS];
-    let mut list = [0u32; DispatchRequest::MOST_ITEMS];
-    let ran = run_steps(
-        log,
-        readable_end,
-        sizes,
-        directory,
-        progress,
-        counts,
-        queues,
-        index,
-        budget,
-        &mut requests,
-        &mut list,
-    );
-    let call = ran.call;
-    if ran.ended {
-        return call;
-    }
-    let rest = run_long(
-        log,
-        readable_end,
-        sizes,
-        directory,
-        call.progress,
-        counts,
-        queues,
-        index,
-        budget - call.steps,
-    );
-    behind(call.steps, rest)
-}
-
-// Steps with a short list, which takes nearly every record; from the first that has more items on, one for any record is taken.
-fn run_short(
-    log: &[u8],
-    readable_end: LogPosition,
-    sizes: Sizes,
-    directory: &[u8],
-    progress: Progress,
-    counts: &mut [u64; 16],
-    queues: &mut [u8],
-    index: &mut [u8],
-    budget: u64,
-    requests: &mut [u64],
-) -> Dispatched
-    requires { Admitted (fixed_of sizes directory.now) (view_of log.now readable_end) (state_of progress counts.old queues.old index.old) × (7 ≤ length requests.old) × (length requests.old ≤ 112) }
-    ensures { ran_of result counts.new queues.new index.new ≡ run (step_of (fixed_of sizes directory.now) (view_of log.now readable_end)) budget (state_of progress counts.old queues.old index.old) }
-{
-    let mut list = [0u32; dispatch_ahead::SHORT_LIST];
-    let ran = run_steps(
-        log,
-        readable_end,
-        sizes,
-        directory,
-        progress,
-        counts,
-        queues,
-        index,
-        budget,
-        requests,
-        &mut list,
-    );
-    let call = ran.call;
-    if ran.ended {
-        return call;
-    }
-    let rest = run_long(
-        log,
-        readable_end,
-        sizes,
-        directory,
-        call.progress,
-        counts,
-        queues,
-        index,
-        budget - call.steps,
-    );
-    behind(call.steps, rest)
-}
-
-// The steps of a call, with places for as many requests as it may take, up to 16.
-fn run_call(
-    log: &[u8],
-    readable_end: LogPosition,
-    sizes: Sizes,
-    directory: &[u8],
-    progress: Progress,
-    counts: &mut [u64; 16],
-    queues: &mut [u8],
-    index: &mut [u8],
-    budget: u64,
-) -> Dispatched
-    requires { Admitted (fixed_of sizes directory.now) (view_of log.now readable_end) (state_of progress counts.old queues.old index.old) }
-    ensures { ran_of result counts.new queues.new index.new ≡ run (step_of (fixed_of sizes directory.now) (view_of log.now readable_end)) budget (state_of progress counts.old queues.old index.old) }
-{
-    if budget <= dispatch_ahead::SHORT_BATCH {
-        let mut few = [0u64; dispatch_ahead::SHORT_REQUESTS];
-        return run_short(
-            log,
-            readable_end,
-            sizes,
-            directory,
-            progress,
-            counts,
-            queues,
-            index,
-            budget,
-            &mut few,
-        );
-    }
-    let mut requests = [0u64; dispatch_ahead::REQUESTS];
-    run_short(
-        log,
-        readable_end,
-        sizes,
-        directory,
-        progress,
-        counts,
-        queues,
-        index,
-        budget,
-        &mut requests,
-    )
 }
 
 // Door check 1, of a log and an index of so many bytes.
@@ -305,8 +232,7 @@ pub fn dispatch(
     if !sizes_fit(sizes, log.len(), index.len()) {
         return no_step(Answer::BadSizes, progress);
     }
-    let listing = consume_queue::queue_rows(directory, sizes.queue_entries, queues.len());
-    if let RowCount::Refused = listing {
+    if consume_queue::queue_rows(directory, sizes.queue_entries, queues.len()).is_none() {
         return no_step(Answer::BadDirectory, progress);
     }
     if progress_bad(sizes, log.len(), progress, readable_end, counts) {
@@ -318,15 +244,11 @@ pub fn dispatch(
     if budget == 0 {
         return no_step(Answer::BudgetSpent, progress);
     }
-    run_call(
+    let call = Call {
         log,
         readable_end,
         sizes,
         directory,
-        progress,
-        counts,
-        queues,
-        index,
-        budget,
-    )
+    };
+    run_call(&call, progress, counts, queues, index, budget)
 }

@@ -6,7 +6,9 @@ use mathlib.Core.Path.{◌≡◌, refl, sym, ◌∙◌, ap, subst}
 use mathlib.Core.Bool.{Bool, true, false, not}
 use mathlib.Core.List.{List}
 use lib.Dec.{eqb}
-use lib.ListN.{length, take, drop, take-append-drop, length-take}
+use lib.ListN.{length, get_or, take, drop, take-append-drop, length-take}
+use lib.Seq.{length-take-le, get_or-take}
+use Rattle.std.proofs.Common.{Result, Ok, Err}
 use borrow.Author.Tests.{not-true, eqb-true, eqb-false}
 use Rattle.codec.specs.Bytes.{part}
 use Rattle.codec.specs.Choice.{pick}
@@ -18,12 +20,11 @@ use Rattle.index_file.specs.Items.{any_bad_slot}
 use Rattle.index_file.proofs.Items.{checked_room, good_slots_stay, good_slots_part}
 use Rattle.machine.specs.Steps.{moved}
 use Rattle.dispatch_request.specs.declared.DispatchRequest.{DispatchRequest}
-use Rattle.dispatch_request.specs.Request.{View, view_of, request}
+use Rattle.dispatch_request.specs.declared.TheConstants.DispatchRequest.{NONE}
+use Rattle.dispatch_request.specs.Request.{View, request}
 use Rattle.dispatch_request.proofs.Standing.{blank_found}
 use Rattle.dispatch_step.specs.declared.Sizes.{Sizes}
 use Rattle.dispatch_step.specs.declared.Progress.{Progress}
-use Rattle.dispatch_step.specs.declared.Filed.{Filed}
-use Rattle.dispatch_step.specs.declared.Filed.TheVariants.{Moved, Stopped}
 use Rattle.dispatch_step.specs.Step.{Fixed, State, state_of, written, filed, moved_by, step_as, stands_here, step_of}
 use Rattle.dispatch_step.specs.Filing.{Fileable, Did}
 use Rattle.dispatch_step.specs.Door.{Admitted}
@@ -36,7 +37,7 @@ use Rattle.dispatch_ahead.specs.declared.Behind.{Behind}
 use Rattle.dispatch_ahead.specs.declared.Behind.TheVariants as behinds
 use Rattle.dispatch_ahead.specs.declared.Ended.TheVariants as ends
 use Rattle.dispatch_ahead.specs.declared.Advanced.{Advanced}
-use Rattle.dispatch_ahead.specs.Ahead.{request_at, stands_in, stands_total, stands_hashes, behind, items_before, BehindIs, Batched, pass_by, Ends, Advances}
+use Rattle.dispatch_ahead.specs.Ahead.{stands_in, stands_total, stands_hashes, behind, items_before, Kept, BehindIs, Batched, pass_by, Ends, Advances}
 use Rattle.dispatch_ahead.proofs.Reading.{items_grow}
 
 -- ---- the loop
@@ -75,34 +76,40 @@ good_kept z q hs s t l d e g =
     (good_slots_stay z.index.slot_count z.index.item_count s.index l hs s.progress.position.0 q.store_time
     (checked_room z.index.slot_count z.index.item_count s.index s.progress.position.0 hs d w.checked) g)
 
--- one turn, with the request that was kept
-module _ (f : Fixed) (v : View) (p : LogPosition) (most : ℕ) (b : Batch) (requests list : List ℕ) (h : Batched f v p most b requests list) (good : Bool) (s t : State)
-    (first done : ℕ) (a : Advancing f v p b list good most s t first done) (more : done < b.records) (q : DispatchRequest) (e : q ≡ request_at requests done) where
+-- one turn, with the next of the requests that were kept
+module _ (f : Fixed) (v : View) (p : LogPosition) (most : ℕ) (b : Batch) (requests : List DispatchRequest) (list : List ℕ) (h : Batched f v p most b requests list) (good : Bool) (s t : State)
+    (first done : ℕ) (a : Advancing f v p b list good most s t first done) (more : done < length (take b.records requests)) where
+  abbrev q : DispatchRequest
+  q = get_or (take b.records requests) done NONE
+
   abbrev hs : List ℕ
   hs = stands_hashes (stands_in f v (behind f v p done))
 
-  here : stands_here f v t ≡ request q hs
-  here = rw (a.place, e) (h.kept done more).next
+  next : done < b.records
+  next = let n = length-take-le b.records requests h.few in omega arith
 
-  items_are : q.items ≡ length hs
-  items_are = rw e (h.kept done more).number
+  kept : Kept f v p done q list
+  kept = rw (get_or-take b.records requests done NONE next) (h.kept done next)
+
+  here : stands_here f v t ≡ request q hs
+  here = rw a.place kept.next
 
   ends_at : items_before f v p (suc done) ≡ first + q.items
   unfolding items_before
-  ends_at = rw (items_are, a.start)
+  ends_at = rw (kept.number, a.start)
 
   pub turn_end : first + q.items ≤ length list
-  turn_end = omega (arith, ends_at, (h.kept done more).within)
+  turn_end = omega (arith, ends_at, kept.within)
 
   turn_items : first + q.items ≤ b.items
-  turn_items = omega (arith, ends_at, h.counted, items_grow f v p b.records done more)
+  turn_items = omega (arith, ends_at, h.counted, items_grow f v p b.records done next)
 
   lent : take (first + q.items - first) (drop first list) ≡ part q.items first list
   unfolding part
   lent = let n : first + q.items - first ≡ q.items = omega arith in rw n
 
   listed : take (first + q.items - first) (drop first list) ≡ hs
-  listed = lent ∙ rw (a.start, e) (h.kept done more).listed
+  listed = lent ∙ rw a.start kept.listed
 
   good_part : good ≡ true → any_bad_slot f.sizes.index.slot_count t.index (part q.items first list) ≡ false
   good_part g =
@@ -126,12 +133,12 @@ module _ (f : Fixed) (v : View) (p : LogPosition) (most : ℕ) (b : Batch) (requ
         good = good_part;
       })
 
-  module _ (r : Filed) (counts queues index : List ℕ)
+  module _ (r : Result Progress Answer) (counts queues index : List ℕ)
       (d : Did (filed f.sizes q (take (first + q.items - first) (drop first list)) t) t r counts queues index) where
     done_as : Did (filed f.sizes q hs t) t r counts queues index
     done_as = rw listed at d
 
-    pub turn_on : {now : Progress} → r ≡ Moved now → Advancing f v p b list good most s (state_of now counts queues index) (first + q.items) (done + 1)
+    pub turn_on : {now : Progress} → r ≡ Ok now → Advancing f v p b list good most s (state_of now counts queues index) (first + q.items) (done + 1)
     unfolding behind stands_total written
     turn_on {now} m =
         let u = state_of now counts queues index in
@@ -139,40 +146,40 @@ module _ (f : Fixed) (v : View) (p : LogPosition) (most : ℕ) (b : Batch) (requ
         let w = filed_moved f.sizes q hs t u k in
         let z : now.position ≡ record { 0 = t.progress.position.0 + q.total } = ap (λ (x : State). x.progress.position) w.left in
         record {
-          few = omega arith;
-          place = rw (add-one, (h.kept done more).next, ← e, ← a.place) z;
+          few = omega (arith, next);
+          place = rw (add-one, kept.next, ← a.place) z;
           start = rw add-one (sym ends_at);
-          going = going_step f v s most t done a.going (step_filed f v t q hs here ∙ k) (omega (arith, h.under));
+          going = going_step f v s most t done a.going (step_filed f v t q hs here ∙ k) (omega (arith, next, h.under));
           sound = λ (g : good ≡ true). good_kept f.sizes q hs t u (take b.items list) a.going.sound.ready.sized k (a.sound g);
         }
 
     -- a rule stops it: nothing of it stands
-    pub turn_off : {x : Answer} {w : Advanced} (n : ℕ) → r ≡ Stopped x → w ≡ record { progress = t.progress; steps = done; ended = ends.Stopped x }
-        → Advances f v most n s w (state_of w.progress counts queues index)
+    pub turn_off : {x : Answer} (n : ℕ) → r ≡ Err x
+        → Advances f v most n s (record { progress = t.progress; steps = done; ended = ends.Stopped x }) (state_of t.progress counts queues index)
     unfolding Ends
-    turn_off n m g =
+    turn_off n m =
         let k = did_stop (filed f.sizes q hs t) done_as m in
-        rw (g, k.still)
+        rw k.still
         (record {
           walked = a.going.walked;
           within = a.going.within;
-          ends = (omega (arith, h.under), step_filed f v t q hs here ∙ k.rule);
+          ends = (omega (arith, next, h.under), step_filed f v t q hs here ∙ k.rule);
         })
 
 -- ---- behind the records
 
-module _ (f : Fixed) (v : View) (p : LogPosition) (most : ℕ) (b : Batch) (requests list : List ℕ) (h : Batched f v p most b requests list) (good : Bool) (s t : State)
-    (first done : ℕ) (a : Advancing f v p b list good most s t first done) (over : b.records ≤ done) where
+module _ (f : Fixed) (v : View) (p : LogPosition) (most : ℕ) (b : Batch) (requests : List DispatchRequest) (list : List ℕ) (h : Batched f v p most b requests list) (good : Bool) (s t : State)
+    (first done : ℕ) (a : Advancing f v p b list good most s t first done) (over : length (take b.records requests) ≤ done) where
   all : done ≡ b.records
-  all = omega (arith, a.few)
+  all = let n = length-take-le b.records requests h.few in omega (arith, a.few)
 
   at_end : stands_here f v t ≡ stands_in f v (behind f v p b.records)
   at_end = rw (a.place, all)
 
-  pub pass_low : {x : Behind} (n : ℕ) → x ≡ b.behind → x ≡ behinds.Blank n → t.progress.position.0 + n ≤ v.end.0
+  pub pass_low : (n : ℕ) → b.behind ≡ behinds.Blank n → t.progress.position.0 + n ≤ v.end.0
   unfolding BehindIs
-  pass_low {x} n e g =
-      let w = subst (BehindIs (stands_in f v (behind f v p b.records)) b.items (length list)) (sym e ∙ g) h.behind_is in
+  pass_low n e =
+      let w = subst (BehindIs (stands_in f v (behind f v p b.records)) b.items (length list)) e h.behind_is in
       (blank_found f.directory f.sizes.geometry v t.progress.position n (at_end ∙ w)).1
 
   passed_on : (x : Behind) → x ≡ b.behind → Advances f v most (length list) s (pass_by t.progress done x) (state_of (pass_by t.progress done x).progress t.counts t.queues t.index)
@@ -204,36 +211,6 @@ module _ (f : Fixed) (v : View) (p : LogPosition) (most : ℕ) (b : Batch) (requ
       go true z = record { walked = a.going.walked; within = a.going.within; ends = rw at_end (omega (arith, w, none done refl (eqb-true done 0 z))) }
       go false z = record { walked = a.going.walked; within = a.going.within; ends = λ (m : 0 < most). let n = eqb-false done 0 z in omega arith }
 
-  pub passed : {x : Behind} {r : Advanced} (n : ℕ) → length list ≡ n → x ≡ b.behind → r ≡ pass_by t.progress done x
+  pub passed : {r : Advanced} (n : ℕ) → length list ≡ n → r ≡ pass_by t.progress b.records b.behind
       → Advances f v most n s r (state_of r.progress t.counts t.queues t.index)
-  passed {x} n l e g = rw (g, ← l) (passed_on x e)
-
--- ---- the readable end is not in the loop's reach
-
--- before each turn, whatever the readable end
-pub record Underway (f : Fixed) (log : List ℕ) (b : Batch) (requests list : List ℕ) (good : Bool) (most : ℕ) (s t : State) (first done : ℕ) : Type 0 where
-  pub few : done ≤ b.records
-  pub queued : length t.queues ≡ length s.queues
-  pub indexed : length t.index ≡ length s.index
-  pub all : (end : LogPosition) → Batched f (view_of log end) s.progress.position most b requests list → Admitted f (view_of log end) s
-      → Advancing f (view_of log end) s.progress.position b list good most s t first done
-
-module _ (f : Fixed) (log : List ℕ) (b : Batch) (requests list : List ℕ) (good : Bool) (most : ℕ) (s : State) where
-  pub underway_start : {bad : Bool} → bad ≡ any_bad_slot f.sizes.index.slot_count s.index (take b.items list) → good ≡ not bad
-      → Underway f log b requests list good most s s 0 0
-  underway_start e n =
-      record { few = omega arith; queued = refl; indexed = refl; all = λ end h k. advancing_start f (view_of log end) b list most s k e n }
-
-  pub underway_on : (end : LogPosition) → Batched f (view_of log end) s.progress.position most b requests list → Admitted f (view_of log end) s
-      → (t : State) (first done : ℕ) → Underway f log b requests list good most s t first done → done < b.records
-      → (q : DispatchRequest) → q ≡ request_at requests done → (r : Filed) (counts queues index : List ℕ)
-      → Did (filed f.sizes q (take (first + q.items - first) (drop first list)) t) t r counts queues index → {now : Progress} → r ≡ Moved now
-      → Underway f log b requests list good most s (state_of now counts queues index) (first + q.items) (done + 1)
-  underway_on end h k t first done u more q e r counts queues index d {now} m =
-      let a = on end h k in
-      record { few = a.few; queued = a.going.queued; indexed = a.going.indexed; all = on }
-    where
-      on : (end' : LogPosition) → Batched f (view_of log end') s.progress.position most b requests list → Admitted f (view_of log end') s
-          → Advancing f (view_of log end') s.progress.position b list good most s (state_of now counts queues index) (first + q.items) (done + 1)
-      on end' h' k' =
-          turn_on f (view_of log end') s.progress.position most b requests list h' good s t first done (u.all end' h' k') more q e r counts queues index d m
+  passed n l g = rw (g, ← all, ← l) (passed_on b.behind refl)

@@ -1,4 +1,3 @@
 pub mod Nexts
-pub mod Kept
 pub mod Reading
 pub mod Advancing

@@ -1,32 +1,31 @@
 -- Records read ahead: what holds before each turn, and how the loop ends. Assumes nothing.
-use Prim.Native.Nat.{ℕ, zero, suc, ◌+◌, ◌*◌, ◌-◌, ◌≤◌, ◌<◌}
+use Prim.Native.Nat.{ℕ, zero, suc, ◌+◌, ◌-◌, ◌≤◌, ◌<◌}
 use mathlib.Core.Path.{◌≡◌, refl, sym, ◌∙◌, ap}
-use mathlib.Core.Bool.{Bool, true, false, ◌&&◌}
 use mathlib.Core.List.{List, ◌++◌}
 use native.Mathlib.Numerals.{add-one}
 use native.Mathlib.Omega.{arith}
-use lib.Dec.{leb, ltb}
-use lib.ListN.{length, take, drop, take-append-drop, length-take, length-drop}
+use mathlib.Core.Logic.{◌≢◌}
+use lib.ListN.{length, get_or, set, take, drop, take-append-drop, length-take, length-drop, length-append, length-set, get_or-append}
 use lib.Seq.{length-take-le, take-append-le, take_at, drop_at}
+use Rattle.std.proofs.lemmas.List.{get_or-set_same, get_or-set_other}
 use borrow.Author.Count.{below_more}
-use borrow.Author.Tests.{lt-ltb, le-leb}
+use Rattle.std.specs.Prelude.{None, Some, Ok, Err}
 use Rattle.codec.specs.Bytes.{part}
 use Rattle.codec.proofs.Parts.{part_left}
 use Rattle.units.specs.declared.Answer.{Answer}
 use Rattle.units.specs.declared.LogPosition.{LogPosition}
+use Rattle.record.specs.declared.Entry.TheVariants as entry
 use Rattle.commit_log.specs.declared.Geometry.{Geometry}
 use Rattle.commit_log.specs.Door.{Within}
 use Rattle.dispatch_request.specs.declared.DispatchRequest.{DispatchRequest}
-use Rattle.dispatch_request.specs.declared.Next.{Next}
-use Rattle.dispatch_request.specs.declared.Next.TheVariants as next
+use Rattle.dispatch_request.specs.declared.TheConstants.DispatchRequest.{NONE}
 use Rattle.dispatch_request.specs.Request.{View, request, stands_at}
-use Rattle.dispatch_request.specs.Reading.{next_of, Reads}
+use Rattle.dispatch_request.specs.Reading.{Next, next_of, Reads}
 use Rattle.dispatch_request.proofs.Standing.{request_found, items_counted}
 use Rattle.dispatch_step.specs.Step.{Fixed}
-use Rattle.dispatch_ahead.specs.declared.Batch.{Batch}
 use Rattle.dispatch_ahead.specs.declared.Behind.{Behind}
 use Rattle.dispatch_ahead.specs.declared.Behind.TheVariants.{Unread, Stop, Blank, Long}
-use Rattle.dispatch_ahead.specs.Ahead.{request_at, stands_in, stands_total, stands_hashes, behind, items_before, Kept, BehindIs, Batched}
+use Rattle.dispatch_ahead.specs.Ahead.{stands_in, stands_total, stands_hashes, behind, items_before, Kept, BehindIs, Batched}
 use Rattle.dispatch_ahead.proofs.Nexts.{next_request, next_long, next_stop, next_blank, in_front}
 
 -- ---- what is kept
@@ -49,123 +48,134 @@ module _ (f : Fixed) (v : View) (p : LogPosition) where
       i
       (omega arith)
 
-  module _ {requests : List ℕ} {i : ℕ} where
+  module _ {i : ℕ} {q : DispatchRequest} where
     -- the list may change behind the record's items
-    kept_front : {list : List ℕ} (list' : List ℕ) (m : ℕ) → Kept f v p requests list i → items_before f v p (suc i) ≤ m → m ≤ length list
-        → length list' ≡ length list → take m list' ≡ take m list → Kept f v p requests list' i
+    kept_front : {list : List ℕ} (list' : List ℕ) (m : ℕ) → Kept f v p i q list → items_before f v p (suc i) ≤ m → m ≤ length list
+        → length list' ≡ length list → take m list' ≡ take m list → Kept f v p i q list'
     unfolding items_before
     kept_front {list} list' m k h s l e =
-        let n = (request_at requests i).items in
         let o = items_before f v p i in
         record {
           next = k.next;
           number = k.number;
           within = omega (arith, k.within);
-          listed = front n o m list' (omega (arith, k.number)) (omega arith) ∙ ap (part n o) e ∙ sym (front n o m list (omega (arith, k.number)) s) ∙ k.listed;
+          listed = front q.items o m list' (omega (arith, k.number)) (omega arith) ∙ ap (part q.items o) e ∙ sym (front q.items o m list (omega (arith, k.number)) s) ∙ k.listed;
         }
-
-    kept_again : {list : List ℕ} {requests' : List ℕ} → Kept f v p requests list i → request_at requests' i ≡ request_at requests i → Kept f v p requests' list i
-    kept_again k e = record { next = rw e k.next; number = rw e k.number; within = k.within; listed = rw e k.listed }
 
 -- ---- the loop
 
--- before each turn: so many records were read and kept, with so many items, in a list of so many places
-pub record Reading (f : Fixed) (v : View) (p : LogPosition) (most room : ℕ) (requests list : List ℕ) (at : LogPosition) (records items : ℕ) : Type 0 where
+-- before each turn: so many records were read and are in the places taken, with so many items, in a list of so many places
+pub record Reading (f : Fixed) (v : View) (p : LogPosition) (most room : ℕ) (taken : List DispatchRequest) (list : List ℕ) (at : LogPosition) (records items : ℕ) : Type 0 where
   pub place : at ≡ behind f v p records
   pub counted : items ≡ items_before f v p records
   pub fits : items ≤ length list
   pub long : length list ≡ room
-  pub few : 7 * records ≤ length requests
-  pub under : records ≤ most
+  pub under : length taken ≤ most
   pub within : Within f.sizes.geometry (length v.log) at v.end
-  pub kept : (i : ℕ) → i < records → Kept f v p requests list i
+  pub kept : (i : ℕ) → i < records → Kept f v p i (get_or taken i NONE) list
 
 -- a list from whose place `items` on a part was lent, with that part back
 abbrev pub back : ℕ → List ℕ → List ℕ → List ℕ
 back items list sub = take items list ++ (sub ++ drop (length list - items) (drop items list))
 
--- what was read by a geometry was read by the sizes that have it
-pub reads_with : (directory : List ℕ) (v : View) (at : LogPosition) {g g' : Geometry} {r : Next} {sub : List ℕ} → g' ≡ g
-    → Reads (stands_at directory g v at) r sub → Reads (stands_at directory g' v at) r sub
-reads_with directory v at e n = rw e n
-
 -- the record that stands next ends below the readable end
 pub next_below : (directory : List ℕ) (g : Geometry) (v : View) (at : LogPosition) {r : Next} {sub : List ℕ} {q : DispatchRequest}
-    → Reads (stands_at directory g v at) r sub → r ≡ next.Request q → at.0 + q.total ≤ v.end.0
+    → Reads (stands_at directory g v at) r sub → r ≡ Ok (entry.Message (Some q)) → at.0 + q.total ≤ v.end.0
 next_below directory g v at {sub} {q} n e =
     (request_found directory g v at q _ (next_request (length sub) (stands_at directory g v at) q (sym n.next ∙ e)).0).below
 
--- so much was read, and what was found stands behind it
-ends : {f : Fixed} {v : View} {p : LogPosition} {most room : ℕ} {requests list : List ℕ} {at : LogPosition} {records items : ℕ} {b : Batch}
-    → Reading f v p most room requests list at records items → (x : Behind) → BehindIs (stands_in f v (behind f v p records)) items (length list) x
-    → ((x ≡ Unread → ⊥) → records < most) → (x ≡ Unread → 0 < most → 0 < records) → b ≡ record { records = records; items = items; behind = x }
-    → Batched f v p most b requests list
-ends g x h l s e = rw e (record { kept = g.kept; counted = g.counted; fits = g.fits; few = g.few; under = g.under; behind_is = h; left_off = l; some = s })
+-- so much was read, and what was found stands behind it; behind the places that could be taken are others
+ends : {f : Fixed} {v : View} {p : LogPosition} {most room : ℕ} {taken : List DispatchRequest} {list : List ℕ} {at : LogPosition} {records items : ℕ}
+    → Reading f v p most room taken list at records items → (others : List DispatchRequest) → records ≤ length taken
+    → (x : Behind) → BehindIs (stands_in f v (behind f v p records)) items (length list) x
+    → ((x ≡ Unread → ⊥) → records < most) → (x ≡ Unread → 0 < most → 0 < records)
+    → Batched f v p most (record { records = records; items = items; behind = x }) (taken ++ others) list
+ends {taken} g others few x h l s =
+    record {
+      kept = λ i b. rw (get_or-append taken others NONE i (omega arith)) (g.kept i b);
+      counted = g.counted;
+      fits = g.fits;
+      few = rw (length-append taken others) (omega arith);
+      under = omega (arith, g.under);
+      behind_is = h;
+      left_off = l;
+      some = s;
+    }
 
-module _ (f : Fixed) (v : View) (p : LogPosition) (most : ℕ) (requests list : List ℕ) where
-  pub reading_start : Within f.sizes.geometry (length v.log) p v.end → Reading f v p most (length list) requests list p 0 0
+module _ (f : Fixed) (v : View) (p : LogPosition) (most room : ℕ) (taken : List DispatchRequest) (list : List ℕ) where
+  pub reading_start : Within f.sizes.geometry (length v.log) p v.end → length list ≡ room → length taken ≤ most → Reading f v p most room taken list p 0 0
   unfolding behind items_before
-  reading_start w =
-      record { place = refl; counted = refl; fits = omega arith; long = refl; few = omega arith; under = omega arith; within = w; kept = λ i h. absurd (omega arith) }
+  reading_start w e m =
+      record { place = refl; counted = refl; fits = omega arith; long = e; under = m; within = w; kept = λ i h. absurd (omega arith) }
 
-  module _ (room : ℕ) (at : LogPosition) (records items : ℕ) (g : Reading f v p most room requests list at records items) where
-    -- nothing more was looked at
-    pub reading_full : {b : Batch} → ((leb (7 * records + 7) (length requests) && ltb records most) && ltb items (length list)) ≡ false → 7 ≤ length requests → 0 < length list
-        → b ≡ record { records = records; items = items; behind = Unread } → Batched f v p most b requests list
+  module _ (at : LogPosition) (records items : ℕ) (g : Reading f v p most room taken list at records items) where
+    -- nothing more was looked at: the list is full
+    pub reading_full : (others : List DispatchRequest) → records ≤ length taken → length list ≤ items → 0 < length list
+        → Batched f v p most (record { records = records; items = items; behind = Unread }) (taken ++ others) list
     unfolding BehindIs items_before
-    reading_full full one some e =
-        ends g Unread tt (λ h. absurd (h refl)) (λ x m. go m records refl g.counted) e
+    reading_full others few full some =
+        ends g others few Unread tt (λ h. absurd (h refl)) (λ x m. go records refl)
       where
-        open_still : (x y z : Bool) → ((x && y) && z) ≡ false → x ≡ true → y ≡ true → z ≡ true → ⊥
-        open_still x y z h i j k = let n : ◌≡◌ {A = Bool} true false = (rw (i, j, k) at h) in let o : ◌≡◌ {A = ℕ} 0 1 = cc in omega arith
+        go : (n : ℕ) → records ≡ n → 0 < records
+        go zero e = let z : items ≡ 0 = (g.counted ∙ ap (items_before f v p) e) in omega arith
+        go (suc n) e = omega arith
 
-        go : 0 < most → (n : ℕ) → records ≡ n → items ≡ items_before f v p n → 0 < records
-        go m zero x c = absurd (open_still _ _ _ full (le-leb (7 * records + 7) (length requests) (omega arith)) (lt-ltb records most (omega arith)) (lt-ltb items (length list) (omega arith)))
-        go m (suc n) x c = omega arith
+    -- or a record stands in each place
+    pub reading_all : (others : List DispatchRequest) {n : ℕ} → n ≡ records → records ≤ length taken → (0 < most → 0 < n)
+        → Batched f v p most (record { records = n; items = items; behind = Unread }) (taken ++ others) list
+    unfolding BehindIs
+    reading_all others e few some = rw e (ends g others few Unread tt (λ h. absurd (h refl)) (λ x m. omega (arith, some m)))
 
-    module _ (sub : List ℕ) (l : (length sub ≡ length (take (length list - items) (drop items list))) × (length (back items list sub) ≡ length list)) where
+    module _ (sub : List ℕ) (l : length sub ≡ length (take (length list - items) (drop items list))) where
+      room_left : length sub ≡ length list - items
+      room_left = l ∙ rw (length-take, length-drop) (omega arith)
+
+      as_long : length (back items list sub) ≡ length list
+      as_long = simp (length-append, length-take, length-drop) (omega (arith, g.fits, room_left))
+
       -- what was kept lies in front of the part
-      pub reading_lent : Reading f v p most room requests (back items list sub) at records items
+      pub reading_lent : Reading f v p most room taken (back items list sub) at records items
       reading_lent =
           let e = take_at (take items list) (sub ++ drop (length list - items) (drop items list)) items (length-take-le items list g.fits) in
           record {
             place = g.place;
             counted = g.counted;
-            fits = omega (arith, g.fits, l.1);
-            long = l.1 ∙ g.long;
-            few = g.few;
+            fits = omega (arith, g.fits, as_long);
+            long = as_long ∙ g.long;
             under = g.under;
             within = g.within;
-            kept = λ i h. kept_front f v p (back items list sub) items (g.kept i h) (omega (arith, g.counted, items_grow f v p records i h)) g.fits l.1 e;
+            kept = λ i h. kept_front f v p (back items list sub) items (g.kept i h) (omega (arith, g.counted, items_grow f v p records i h)) g.fits as_long e;
           }
-
-      room_left : length sub ≡ length list - items
-      room_left = l.0 ∙ rw (length-take, length-drop) (omega arith)
 
       module _ {r : Next} (n : Reads (stands_in f v at) r sub) where
         stands : {y : Next} → r ≡ y → next_of (length sub) (stands_in f v (behind f v p records)) ≡ y
         stands e = ap (λ (x : LogPosition). next_of (length sub) (stands_in f v x)) (sym g.place) ∙ sym n.next ∙ e
 
-        pub reading_stop : {a : Answer} {b : Batch} → records < most → r ≡ next.Stop a
-            → b ≡ record { records = records; items = items; behind = Stop a } → Batched f v p most b requests (back items list sub)
-        unfolding BehindIs
-        reading_stop {a} m e = ends reading_lent (Stop a) (next_stop (length sub) _ a (stands e)) (λ h. m) (λ u. absurd (let z : ◌≡◌ {A = ℕ} 0 1 = cc in omega arith))
+        -- what was read is no record, or one with too many items
+        module _ (others : List DispatchRequest) (more : records < length taken) where
+          ends_here : (x : Behind) → BehindIs (stands_in f v (behind f v p records)) items (length (back items list sub)) x → (x ≡ Unread → ⊥)
+              → Batched f v p most (record { records = records; items = items; behind = x }) (taken ++ others) (back items list sub)
+          ends_here x h u = ends reading_lent others (omega arith) x h (λ z. omega (arith, g.under)) (λ e. absurd (u e))
 
-        pub reading_blank : {k : ℕ} {b : Batch} → records < most → r ≡ next.Blank k
-            → b ≡ record { records = records; items = items; behind = Blank k } → Batched f v p most b requests (back items list sub)
-        unfolding BehindIs
-        reading_blank {k} m e = ends reading_lent (Blank k) (next_blank (length sub) _ k (stands e)) (λ h. m) (λ u. absurd (let z : ◌≡◌ {A = ℕ} 0 1 = cc in omega arith))
+          pub reading_stop : {a : Answer} → r ≡ Err a
+              → Batched f v p most (record { records = records; items = items; behind = Stop a }) (taken ++ others) (back items list sub)
+          unfolding BehindIs
+          reading_stop {a} e = ends_here (Stop a) (next_stop (length sub) _ a (stands e)) (λ u. let z : ◌≡◌ {A = ℕ} 0 1 = cc in omega arith)
 
-        pub reading_long : {b : Batch} → records < most → r ≡ next.Long
-            → b ≡ record { records = records; items = items; behind = Long } → Batched f v p most b requests (back items list sub)
-        unfolding BehindIs
-        reading_long m e =
-            let w = next_long (length sub) (stands_in f v (behind f v p records)) (stands e) in
-            ends reading_lent Long (omega (arith, w, room_left, l.1, g.fits)) (λ h. m) (λ u. absurd (let z : ◌≡◌ {A = ℕ} 0 1 = cc in omega arith))
+          pub reading_blank : {k : ℕ} → r ≡ Ok (entry.Blank k)
+              → Batched f v p most (record { records = records; items = items; behind = Blank k }) (taken ++ others) (back items list sub)
+          unfolding BehindIs
+          reading_blank {k} e = ends_here (Blank k) (next_blank (length sub) _ k (stands e)) (λ u. let z : ◌≡◌ {A = ℕ} 0 1 = cc in omega arith)
+
+          pub reading_long : r ≡ Ok (entry.Message None)
+              → Batched f v p most (record { records = records; items = items; behind = Long }) (taken ++ others) (back items list sub)
+          unfolding BehindIs
+          reading_long e =
+              let w = next_long (length sub) (stands_in f v (behind f v p records)) (stands e) in
+              ends_here Long (omega (arith, w, room_left, as_long, g.fits)) (λ u. let z : ◌≡◌ {A = ℕ} 0 1 = cc in omega arith)
 
         -- a turn: the record that stands next is kept too
-        module _ {q : DispatchRequest} (e : r ≡ next.Request q) (requests' : List ℕ)
-            (put : request_at requests' records ≡ q) (still : (i : ℕ) → i < records → request_at requests' i ≡ request_at requests i) where
+        module _ {q : DispatchRequest} (e : r ≡ Ok (entry.Message (Some q))) where
           here : (stands_in f v (behind f v p records) ≡ request q (stands_hashes (stands_in f v (behind f v p records)))) × (length (stands_hashes (stands_in f v (behind f v p records))) ≤ length sub)
           here = next_request (length sub) (stands_in f v (behind f v p records)) q (stands e)
 
@@ -175,31 +185,33 @@ module _ (f : Fixed) (v : View) (p : LogPosition) (most : ℕ) (requests list : 
           pub items_fit : items + q.items ≤ length list
           items_fit = omega (arith, here.1, items_are, room_left, g.fits)
 
-          new : Kept f v p requests' (back items list sub) records
+          new : Kept f v p records q (back items list sub)
           unfolding items_before part
           new =
               record {
-                next = rw put here.0;
-                number = rw put items_are;
-                within = omega (arith, items_fit, items_are, g.counted, l.1);
+                next = here.0;
+                number = items_are;
+                within = omega (arith, items_fit, items_are, g.counted, as_long);
                 listed =
-                    rw (put, items_are, ← g.counted, drop_at (take items list) (sub ++ drop (length list - items) (drop items list)) items (length-take-le items list g.fits), take-append-le (length (stands_hashes (stands_in f v (behind f v p records)))) sub _ here.1)
+                    rw (items_are, ← g.counted, drop_at (take items list) (sub ++ drop (length list - items) (drop items list)) items (length-take-le items list g.fits), take-append-le (length (stands_hashes (stands_in f v (behind f v p records)))) sub _ here.1)
                     (in_front (stands_in f v (behind f v p records)) sub (rw (← g.place) n.listed) here.1);
               }
 
-          pub reading_on : 7 * records + 7 ≤ length requests → records < most → length requests' ≡ length requests → Reading f v p most room requests' (back items list sub) (record { 0 = at.0 + q.total }) (records + 1) (items + q.items)
+          pub reading_on : records < length taken → Reading f v p most room (set taken records q) (back items list sub) (record { 0 = at.0 + q.total }) (records + 1) (items + q.items)
           unfolding behind items_before stands_total
-          reading_on x y same =
+          reading_on more =
               let z = next_below f.directory f.sizes.geometry v at n e in
               rw (add-one records)
               (record {
                 place = rw (here.0, ← g.place);
                 counted = rw (← g.counted, items_are);
-                fits = omega (arith, items_fit, l.1);
-                long = l.1 ∙ g.long;
-                few = omega arith;
-                under = omega arith;
+                fits = omega (arith, items_fit, as_long);
+                long = as_long ∙ g.long;
+                under = rw (length-set taken records q) g.under;
                 within = record { from = omega (arith, g.within.from); to = z; end = g.within.end };
                 kept = λ i h.
-                    below_more (Kept f v p requests' (back items list sub)) records (λ j b. kept_again f v p (reading_lent.kept j b) (still j b)) new i (rw (add-one records) h);
+                    below_more (λ (j : ℕ). Kept f v p j (get_or (set taken records q) j NONE) (back items list sub)) records
+                    (λ j b. let ne : j ≢ records = omega arith in rw get_or-set_other (reading_lent.kept j b))
+                    (rw get_or-set_same new)
+                    i (rw (add-one records) h);
               })

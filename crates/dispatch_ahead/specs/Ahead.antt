@@ -1,13 +1,15 @@
 -- Records read ahead as requests: what is kept of them, and what an advance promises. Assumes nothing.
-use Rattle.std.specs.Prelude.{ℕ, zero, suc, ◌+◌, ◌*◌, ◌<◌, ◌≤◌, ◌≡◌, List, [], eqb, length, get_or}
+use Rattle.std.specs.Prelude.{ℕ, zero, suc, ◌+◌, ◌<◌, ◌≤◌, ◌≡◌, List, [], eqb, length, get_or}
 use Rattle.codec.specs.Bytes.{part}
 use Rattle.codec.specs.Choice.{pick}
 use Rattle.units.specs.declared.LogPosition.{LogPosition}
 use Rattle.machine.specs.Steps.{moved, stopped, iterate}
 use Rattle.dispatch_request.specs.declared.DispatchRequest.{DispatchRequest}
-use Rattle.dispatch_request.specs.Request.{View, Stands, stop, blank, request, stands_at}
+use Rattle.dispatch_request.specs.declared.TheConstants.DispatchRequest.{NONE}
+use Rattle.dispatch_request.specs.Request.{View, view_of, Stands, stop, blank, request, stands_at}
 use Rattle.dispatch_step.specs.declared.Progress.{Progress}
-use Rattle.dispatch_step.specs.Step.{Fixed, State, state_of, on_by, step_of}
+use Rattle.dispatch_step.specs.Step.{Fixed, State, fixed_of, state_of, on_by, step_of}
+use Rattle.dispatch_ahead.specs.declared.Call.{Call}
 use Rattle.dispatch_ahead.specs.declared.Batch.{Batch}
 use Rattle.dispatch_ahead.specs.declared.Behind.{Behind}
 use Rattle.dispatch_ahead.specs.declared.Behind.TheVariants.{Unread, Stop, Blank, Long}
@@ -16,20 +18,13 @@ use Rattle.dispatch_ahead.specs.declared.Ended.TheVariants.{Going, Stopped}
 use Rattle.dispatch_ahead.specs.declared.Ended.TheVariants as ended
 use Rattle.dispatch_ahead.specs.declared.Advanced.{Advanced}
 
--- ---- what is kept
+-- ---- a call
 
--- request n of those kept, seven numbers each
-unfoldable pub request_at : List ℕ → ℕ → DispatchRequest
-request_at requests n =
-    record {
-      total = get_or requests (7 * n) 0;
-      entry = eqb (get_or requests (7 * n + 1) 0) 1;
-      row = get_or requests (7 * n + 2) 0;
-      queue_offset = record { 0 = get_or requests (7 * n + 3) 0 };
-      tag_code = get_or requests (7 * n + 4) 0;
-      store_time = get_or requests (7 * n + 5) 0;
-      items = get_or requests (7 * n + 6) 0;
-    }
+abbrev pub fixed_in : Call → Fixed
+fixed_in c = fixed_of c.sizes c.directory.now
+
+abbrev pub view_in : Call → View
+view_in c = view_of c.log.now c.readable_end
 
 -- ---- records one behind the other
 
@@ -56,12 +51,12 @@ unfoldable pub items_before : Fixed → View → LogPosition → ℕ → ℕ
 items_before f v p zero = 0
 items_before f v p (suc i) = items_before f v p i + length (stands_hashes (stands_in f v (behind f v p i)))
 
--- record i is kept as request i, its hashes behind those of the records before it
-pub record Kept (f : Fixed) (v : View) (p : LogPosition) (requests list : List ℕ) (i : ℕ) : Type 0 where
-  pub next : stands_in f v (behind f v p i) ≡ request (request_at requests i) (stands_hashes (stands_in f v (behind f v p i)))
-  pub number : (request_at requests i).items ≡ length (stands_hashes (stands_in f v (behind f v p i)))
+-- record i is kept as a request, its hashes behind those of the records before it
+pub record Kept (f : Fixed) (v : View) (p : LogPosition) (i : ℕ) (q : DispatchRequest) (list : List ℕ) : Type 0 where
+  pub next : stands_in f v (behind f v p i) ≡ request q (stands_hashes (stands_in f v (behind f v p i)))
+  pub number : q.items ≡ length (stands_hashes (stands_in f v (behind f v p i)))
   pub within : items_before f v p (suc i) ≤ length list
-  pub listed : part (request_at requests i).items (items_before f v p i) list ≡ stands_hashes (stands_in f v (behind f v p i))
+  pub listed : part q.items (items_before f v p i) list ≡ stands_hashes (stands_in f v (behind f v p i))
 
 -- what stands behind the records of a batch, of a list of n places of which `items` are taken
 unfoldable pub BehindIs : Stands → ℕ → ℕ → Behind → Type 0
@@ -71,18 +66,18 @@ BehindIs x items n (Blank k) = x ≡ blank k
 BehindIs x items n Long = n < items + length (stands_hashes x)
 
 -- places for 1 to 16 requests, and for hashes
-pub record RoomAhead (requests list : List ℕ) : Type 0 where
-  pub one : 7 ≤ length requests
-  pub few : length requests ≤ 112
+pub record RoomAhead (requests : List DispatchRequest) (list : List ℕ) : Type 0 where
+  pub one : 1 ≤ length requests
+  pub few : length requests ≤ 16
   pub some : 0 < length list
   pub bound : length list ≤ 16385
 
 -- what was read ahead from p on
-pub record Batched (f : Fixed) (v : View) (p : LogPosition) (most : ℕ) (r : Batch) (requests list : List ℕ) : Type 0 where
-  pub kept : (i : ℕ) → i < r.records → Kept f v p requests list i
+pub record Batched (f : Fixed) (v : View) (p : LogPosition) (most : ℕ) (r : Batch) (requests : List DispatchRequest) (list : List ℕ) : Type 0 where
+  pub kept : (i : ℕ) → i < r.records → Kept f v p i (get_or requests i NONE) list
   pub counted : r.items ≡ items_before f v p r.records
   pub fits : r.items ≤ length list
-  pub few : 7 * r.records ≤ length requests
+  pub few : r.records ≤ length requests
   pub under : r.records ≤ most
   pub behind_is : BehindIs (stands_in f v (behind f v p r.records)) r.items (length list) r.behind
   -- more was asked for, and something was read that is not kept

@@ -7,15 +7,15 @@ use mathlib.Core.List.{List}
 use native.Mathlib.Omega.{arith}
 use lib.Dec.{leb, eqb}
 use lib.ListN.{length, get_or}
+use Rattle.std.specs.Prelude.{Ok, Err}
 use Rattle.codec.proofs.Choices.{pick_either}
 use Rattle.units.specs.declared.LogPosition.{LogPosition}
 use Rattle.units.specs.declared.QueueOffset.{QueueOffset}
 use Rattle.units.specs.declared.Answer.{Answer}
 use Rattle.units.specs.declared.Answer.TheVariants.{Done, NotReadable, Damaged}
 use Rattle.units.specs.Answers.{number_of}
-use Rattle.record.specs.declared.LogEntry.{LogEntry}
-use Rattle.record.specs.declared.LogEntry.TheVariants.{Stop, Blank, Message}
-use Rattle.record.specs.Record.{entry_at}
+use Rattle.record.specs.declared.Entry.TheVariants.{Blank, Message}
+use Rattle.record.specs.Record.{LogEntry, entry_at}
 use Rattle.record.proofs.Stops.{entry_stops}
 use Rattle.commit_log.specs.declared.Geometry.{Geometry}
 use Rattle.commit_log.specs.Log.{segment_rest, seen, entry_within}
@@ -35,7 +35,7 @@ Ruled a = byRule a ≡ true
 
 -- an entry, what stands in the log, and an outcome that, if they stop, stop so
 abbrev Reads : LogEntry → Type 0
-Reads y = (a : Answer) → y ≡ Stop a → Ruled a
+Reads y = (a : Answer) → y ≡ Err a → Ruled a
 
 abbrev Halts : Stands → Type 0
 Halts x = (a : Answer) → x ≡ stop a → Ruled a
@@ -63,9 +63,9 @@ stands-halts directory g v p =
     halt b r a e = let same : b ≡ a = cc in subst Ruled same r
 
     go : (y : LogEntry) → Reads y → Halts (stands_as directory g v p y)
-    go (Stop b) r = halt b (r b refl)
-    go (Blank n) r = λ a e. absurd (let z : ◌≡◌ {A = ℕ} 0 1 = cc in omega arith)
-    go (Message m) r = λ a e. absurd (let z : ◌≡◌ {A = ℕ} 0 1 = cc in omega arith)
+    go (Err b) r = halt b (r b refl)
+    go (Ok (Blank n)) r = λ a e. absurd cc
+    go (Ok (Message m)) r = λ a e. absurd cc
 
 -- ---- rules 6 and 7
 
@@ -93,7 +93,7 @@ unfolding unless
 unless-goes a next r g = pick_either Goes (eqb (number_of a) 0) next (stopped a) g (halts a r)
 
 done : {t : State} → Goes (moved t)
-done a e = absurd (let z : ◌≡◌ {A = ℕ} 0 1 = cc in omega arith)
+done a e = absurd cc
 
 step-goes : (f : Fixed) (v : View) (s : State) → Goes (step_of f v s)
 unfolding step_of step_as filed

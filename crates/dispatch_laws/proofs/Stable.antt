@@ -6,6 +6,7 @@ use native.Mathlib.Omega.{arith}
 use lib.ListN.{take, drop, length-take, length-drop}
 use lib.Seq.{ext_get_or, get_or-take, get_or-drop}
 use borrow.Author.Tests.{eq-eqb}
+use Rattle.std.specs.Prelude.{Ok, Err}
 use Rattle.codec.specs.Bytes.{part}
 use Rattle.codec.specs.Choice.{pick}
 use Rattle.units.specs.declared.Answer.{Answer}
@@ -13,10 +14,10 @@ use Rattle.units.specs.declared.Answer.TheVariants.{Done}
 use Rattle.units.specs.declared.LogPosition.{LogPosition}
 use Rattle.units.specs.declared.Place.{Place}
 use Rattle.record.specs.declared.Record.{Record}
-use Rattle.record.specs.declared.LogEntry.{LogEntry}
-use Rattle.record.specs.declared.LogEntry.TheVariants.{Stop, Blank, Message}
-use Rattle.record.specs.Record.{message_of}
+use Rattle.record.specs.declared.Entry.TheVariants.{Blank, Message}
+use Rattle.record.specs.Record.{LogEntry, message_of}
 use Rattle.record.specs.Claims.{Whole}
+use Rattle.record.proofs.Entries.{no_entry}
 use Rattle.record.proofs.Soundness.{blank_padded, message_framed, message_sound}
 use Rattle.commit_log.specs.declared.Geometry.{Geometry}
 use Rattle.commit_log.specs.Log.{segment_rest, seen, entry_within, place_bytes, Extends}
@@ -47,7 +48,7 @@ record Parts (m : Record) : Type 0 where
   pub topic : m.topic.at + m.topic.len ≤ m.total
   pub properties : m.properties.at + m.properties.len ≤ m.total
 
-parts : (log : List ℕ) (g : Geometry) (p e : LogPosition) (m : Record) → entry_within log g p e ≡ Message m → Parts m
+parts : (log : List ℕ) (g : Geometry) (p e : LogPosition) (m : Record) → entry_within log g p e ≡ Ok (Message m) → Parts m
 unfolding entry_within message_of
 parts log g p e m h =
     let is = (message_sound p (segment_rest g p) (seen log g p e) m h).1 in
@@ -58,12 +59,6 @@ parts log g p e m h =
     let ql = ap (λ (x : Record). x.properties.len) is in
     record { topic = omega arith; properties = omega arith }
 
-stop_blank : (n : ℕ) → Whole (Blank n)
-stop_blank n a e = let z : ◌≡◌ {A = ℕ} 0 1 = cc in omega arith
-
-stop_message : (m : Record) → Whole (Message m)
-stop_message m a e = let z : ◌≡◌ {A = ℕ} 0 1 = cc in omega arith
-
 -- before the readable end what stands there is the entry's
 stands_is : (directory : List ℕ) (g : Geometry) (v : View) (p : LogPosition) (y : LogEntry) → p.0 < v.end.0 → entry_within v.log g p v.end ≡ y
     → stands_at directory g v p ≡ stands_as directory g v p y
@@ -71,13 +66,13 @@ stands_is directory g v p y l h = stands_as_is directory g v p [] (sym h) (λ e.
 
 module _ (directory : List ℕ) (g : Geometry) (v w : View) (p : LogPosition) where
   -- and it looks at the view no further than at topic and properties
-  blank_same : (n : ℕ) → stands_as directory g w p (Blank n) ≡ stands_as directory g v p (Blank n)
+  blank_same : (n : ℕ) → stands_as directory g w p (Ok (Blank n)) ≡ stands_as directory g v p (Ok (Blank n))
   unfolding stands_as
   blank_same n = refl
 
   message_same : (m : Record) → place_bytes w.log g p m.topic ≡ place_bytes v.log g p m.topic
       → place_bytes w.log g p m.properties ≡ place_bytes v.log g p m.properties
-      → stands_as directory g w p (Message m) ≡ stands_as directory g v p (Message m)
+      → stands_as directory g w p (Ok (Message m)) ≡ stands_as directory g v p (Ok (Message m))
   unfolding stands_as made_of
   message_same m i j = rw (i, j)
 
@@ -102,15 +97,15 @@ module _ (directory : List ℕ) (g : Geometry) (v w : View) (p : LogPosition) wh
         before e = goes Done (rw (eq-eqb p.0 v.end.0 e))
 
         go : (y : LogEntry) → entry_within v.log g p v.end ≡ y → stands_at directory g w p ≡ stands_at directory g v p
-        go (Stop a) h = absurd (goes a (stands_as_is directory g v p [] (sym h) before))
-        go (Blank n) h =
+        go (Err a) h = absurd (goes a (stands_as_is directory g v p [] (sym h) before))
+        go (Ok (Blank n)) h =
             let k = blank_padded _ _ _ n h in
-            over (Blank n) (stop_blank n) (omega (arith, k.0, k.1.below, seen_most v.log g p v.end)) h (blank_same n)
-        go (Message m) h =
+            over (Ok (Blank n)) (λ a. no_entry) (omega (arith, k.0, k.1.below, seen_most v.log g p v.end)) h (blank_same n)
+        go (Ok (Message m)) h =
             let k = message_framed _ _ _ m h in
             let b : p.0 + m.total ≤ v.end.0 = omega (arith, k.least, k.below, seen_most v.log g p v.end) in
             let z = parts v.log g p v.end m h in
-            over (Message m) (stop_message m) (omega (arith, k.least)) h
+            over (Ok (Message m)) (λ a. no_entry) (omega (arith, k.least)) h
             (message_same m (place_stays m.topic m.total z.topic b) (place_stays m.properties m.total z.properties b))
 
 pub stable : (f : Fixed) (v w : View) (s t : State) → f.sizes.geometry.first_position.0 ≤ position_of s → Extended f v w

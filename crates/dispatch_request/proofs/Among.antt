@@ -6,7 +6,10 @@ use mathlib.Core.List.{List, [], ◌∷◌, ◌++◌}
 use native.Mathlib.Omega.{arith}
 use lib.ListN.{length, take, drop, length-append, length-map}
 use borrow.Author.Tests.{not-true, not-false}
-use Rattle.codec.specs.Bytes.{part, same}
+use Rattle.std.specs.Cmp.Lexicographic.{pointwise}
+use Rattle.std.specs.List.{list_any}
+use lib.Dec.{eqb}
+use Rattle.codec.specs.Bytes.{same}
 use Rattle.codec.specs.Choice.{pick}
 use Rattle.codec.proofs.Equal.{same_lengths}
 use Rattle.codec.proofs.Parts.{part_whole}
@@ -24,42 +27,19 @@ use Rattle.dispatch_request.specs.Request.{transaction, makes_items, is_found, u
 
 -- ---- two keys
 
-pub other_length : (a b : List ℕ) → (length a ≡ length b → ⊥) → false ≡ same a b
-other_length a b h = sym (same_lengths a b h)
+pub same_bytes : (a b : List ℕ) → pointwise eqb a b ≡ same a b
+unfolding same
+same_bytes [] [] = refl
+same_bytes [] (y ∷ b) = refl
+same_bytes (x ∷ a) [] = refl
+same_bytes (x ∷ a) (y ∷ b) = rw (same_bytes a b)
 
-pub same_length : (a b : List ℕ) {r : Bool} → length a ≡ length b → r ≡ same (part (length b) 0 a) b → r ≡ same a b
-same_length a b h e = e ∙ rw (← h, part_whole a)
+-- ---- the parts of KEYS
 
--- ---- the parts of KEYS: one of those from `at` on is the key as one of all is
-
-pub record Seeking (key v : List ℕ) (at : ℕ) : Type 0 where
-  pub low : at ≤ length v
-  pub rest : is_among key (keys_at (keys_from at v) v) ≡ is_among key (keys_at (key_places v) v)
-
-module _ (key v : List ℕ) where
-  pub seeking_start : Seeking key v 0
-  unfolding key_places
-  seeking_start = record { low = omega arith; rest = refl }
-
-  module _ (at : ℕ) (g : Seeking key v at) where
-    pub seeking_end : keys_from at v ≡ [] → false ≡ is_among key (keys_at (key_places v) v)
-    unfolding keys_at is_among
-    seeking_end e = rw e at g.rest
-
-    module _ (p : Place) (t : KeyLeads at v p) {r : Bool} (e : r ≡ same (take (p.at + p.len - p.at) (drop p.at v)) key) where
-      compared : r ≡ same (bytes_at p v) key
-      unfolding bytes_at part
-      compared = let n : p.at + p.len - p.at ≡ p.len = omega arith in rw n at e
-
-      led : (r || is_among key (keys_at (keys_from (p.at + p.len) v) v)) ≡ is_among key (keys_at (key_places v) v)
-      unfolding keys_at is_among
-      led = rw compared (rw t.3 at g.rest)
-
-      pub seeking_found : r ≡ true → true ≡ is_among key (keys_at (key_places v) v)
-      seeking_found h = rw h at led
-
-      pub seeking_on : r ≡ false → Seeking key v (p.at + p.len)
-      seeking_on h = record { low = t.2; rest = rw h at led }
+pub any_among : (key : List ℕ) (ks : List (List ℕ)) → list_any (λ k. pointwise eqb k key) ks ≡ is_among key ks
+unfolding is_among
+any_among key [] = refl
+any_among key (k ∷ ks) = rw (same_bytes k key, any_among key ks)
 
 -- ---- the unique key
 

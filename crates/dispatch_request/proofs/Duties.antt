@@ -13,8 +13,7 @@ use Rattle.properties.specs.declared.Found.TheVariants.{Absent, One, Many}
 use Rattle.properties.specs.declared.Scanned.{Scanned}
 use Rattle.properties.specs.Finder.{tags_name, finder, scanned, found_bytes}
 use borrow.Author.Tests.{ne_eqb}
-use Rattle.directory.specs.declared.Located.{Located}
-use Rattle.directory.specs.declared.Located.TheVariants.{Unlisted, Row}
+use Rattle.std.specs.Prelude.{Option, None, Some}
 use Rattle.directory.specs.Directory.{queues as listed_queues, row_of}
 use Rattle.directory.proofs.Laws.{row_found}
 use Rattle.dispatch_request.specs.Request.{makes_entry, makes_items, row_number, tag_of}
@@ -44,34 +43,25 @@ module _ (type : ℕ) {t : ℕ} (e : t ≡ type) where
 
 -- ---- the row
 
-module _ (x : Located) {y : Located} (e : y ≡ x) where
-  pub number_unlisted : y ≡ Unlisted → 16 ≡ row_number x
-  unfolding row_number
-  number_unlisted f = rw (← e, f)
-
-  pub number_row : {i : ℕ} → y ≡ Row i → i ≡ row_number x
-  unfolding row_number
-  number_row f = rw (← e, f)
-
 -- the row that is found is one of 16
-pub row_small : (topic : List ℕ) (id : ℕ) (d : List ℕ) (i : ℕ) {x : Located} → length (listed_queues d) ≤ 16 → x ≡ row_of topic id d → x ≡ Row i → i < 16
+pub row_small : (topic : List ℕ) (id : ℕ) (d : List ℕ) (i : ℕ) {x : Option ℕ} → length (listed_queues d) ≤ 16 → x ≡ row_of topic id d → x ≡ Some i → i < 16
 row_small topic id d i l e f = let w = (row_found topic id d i (sym e ∙ f)).within in omega arith
 
 pub number_small : (topic : List ℕ) (id : ℕ) (d : List ℕ) → length (listed_queues d) ≤ 16 → row_number (row_of topic id d) ≤ 16
 unfolding row_number
 number_small topic id d l = go (row_of topic id d) refl
   where
-    go : (x : Located) → x ≡ row_of topic id d → row_number x ≤ 16
-    go Unlisted e = omega arith
-    go (Row i) e = let s = row_small topic id d i l e refl in omega arith
+    go : (x : Option ℕ) → x ≡ row_of topic id d → row_number x ≤ 16
+    go None e = omega arith
+    go (Some i) e = let s = row_small topic id d i l e refl in omega arith
 
 pub number_listed : (topic : List ℕ) (id : ℕ) (d : List ℕ) → row_number (row_of topic id d) < 16 → row_number (row_of topic id d) < length (listed_queues d)
 unfolding row_number
 number_listed topic id d = go (row_of topic id d) refl
   where
-    go : (x : Located) → row_of topic id d ≡ x → row_number x < 16 → row_number x < length (listed_queues d)
-    go Unlisted e h = absurd (omega arith)
-    go (Row i) e h = (row_found topic id d i e).within
+    go : (x : Option ℕ) → row_of topic id d ≡ x → row_number x < 16 → row_number x < length (listed_queues d)
+    go None e h = absurd (omega arith)
+    go (Some i) e h = (row_found topic id d i e).within
 
 -- ---- the tag code
 

@@ -19,7 +19,7 @@ use Rattle.properties.specs.Finder.{scanned, found_bytes}
 use Rattle.properties.specs.Keys.{keys_from, key_places}
 use Rattle.dispatch_request.specs.Request.{keys_at, record_hashes}
 use Rattle.dispatch_request.specs.Inner.{hashes, filled_one, Gathered}
-use Rattle.dispatch_request.proofs.Keys.{hash_lent, length_hashes, hashes_none, hashes_all}
+use Rattle.dispatch_request.proofs.Keys.{length_hashes, hashes_none, hashes_all}
 
 gathered_none : (n : ℕ) (l : List ℕ) → Gathered [] n l n l
 gathered_none n l = record { long = refl; all = λ h. (omega arith, sym (append-nil (take n l))); more = λ h. omega arith }
@@ -65,26 +65,24 @@ module _ (prefix : ℕ) (l : List ℕ) where
           let i = g.more (omega arith) in
           omega (arith, length_hashes prefix (filled_one key), one (filled key))
 
--- ---- the parts of KEYS: those in the list and those from `at` on are all
+-- ---- the parts of KEYS: those in the list and those that are left are all
 
-pub record Gathering (prefix : ℕ) (v : List ℕ) (first : ℕ) (l : List ℕ) (number : ℕ) (m : List ℕ) (at : ℕ) : Type 0 where
+pub record Gathering (prefix : ℕ) (keys : List (List ℕ)) (first : ℕ) (l : List ℕ) (number : ℕ) (m : List ℕ) (left : List (List ℕ)) : Type 0 where
   pub start : first ≤ length l
-  pub low : at ≤ length v
   pub place : number ≤ length m
   pub long : length m ≡ length l
-  pub rest : take number m ++ hashes prefix (keys_at (keys_from at v) v) ≡ take first l ++ hashes prefix (keys_at (key_places v) v)
+  pub rest : take number m ++ hashes prefix left ≡ take first l ++ hashes prefix keys
 
-module _ (prefix : ℕ) (v : List ℕ) (first : ℕ) (l : List ℕ) where
-  pub gathering_start : first ≤ length l → Gathering prefix v first l first l 0
-  unfolding key_places
-  gathering_start h = record { start = h; low = omega arith; place = h; long = refl; rest = refl }
+module _ (prefix : ℕ) (keys : List (List ℕ)) (first : ℕ) (l : List ℕ) where
+  pub gathering_start : {left : List (List ℕ)} → left ≡ keys → first ≤ length l → Gathering prefix keys first l first l left
+  gathering_start e h = record { start = h; place = h; long = refl; rest = rw e }
 
-  module _ (number : ℕ) (m : List ℕ) (at : ℕ) (g : Gathering prefix v first l number m at) where
-    counted : number + length (hashes prefix (keys_at (keys_from at v) v)) ≡ first + length (hashes prefix (keys_at (key_places v) v))
+  module _ (number : ℕ) (m : List ℕ) {left : List (List ℕ)} (g : Gathering prefix keys first l number m left) where
+    counted : number + length (hashes prefix left) ≡ first + length (hashes prefix keys)
     counted = rw (length-append, length-append, length-take-le number m g.place, length-take-le first l g.start) at (ap length g.rest)
 
-    pub gathering_end : keys_from at v ≡ [] → Gathered (hashes prefix (keys_at (key_places v) v)) first l number m
-    unfolding keys_at hashes
+    pub gathering_end : left ≡ [] → Gathered (hashes prefix keys) first l number m
+    unfolding hashes
     gathering_end e =
         record {
           long = g.long;
@@ -92,27 +90,25 @@ module _ (prefix : ℕ) (v : List ℕ) (first : ℕ) (l : List ℕ) where
           more = λ h. absurd (omega (arith, g.place, g.long));
         }
 
-    module _ (p : Place) (t : KeyLeads at v p) where
-      pub gathering_full : length m ≤ number → Gathered (hashes prefix (keys_at (key_places v) v)) first l (number + 1) m
-      unfolding keys_at hashes
+    module _ (key : List ℕ) (behind : List (List ℕ)) (e : left ≡ key ∷ behind) where
+      pub gathering_full : length m ≤ number → Gathered (hashes prefix keys) first l (number + 1) m
+      unfolding hashes
       gathering_full h =
           let k = g.long in
           record {
             long = k;
             all = λ i. absurd (omega arith);
-            more = λ i. let c = rw t.3 at counted in omega arith;
+            more = λ i. let c = rw e at counted in omega arith;
           }
 
-      pub gathering_on : {h : ℕ} → number < length m → h ≡ key_hash prefix (take (p.at + p.len - p.at) (drop p.at v))
-          → Gathering prefix v first l (number + 1) (set m number h) (p.at + p.len)
-      unfolding keys_at hashes
-      gathering_on {h} k e =
+      pub gathering_on : {h : ℕ} → number < length m → h ≡ key_hash prefix key → Gathering prefix keys first l (number + 1) (set m number h) behind
+      unfolding hashes
+      gathering_on {h} k q =
           record {
             start = g.start;
-            low = t.2;
             place = rw (length-set m number h) (omega arith);
             long = length-set m number h ∙ g.long;
-            rest = rw (add-one number, take-suc-set m number h k, append_assoc (take number m) (h ∷ []) _, hash_lent prefix p v e) (rw t.3 at g.rest);
+            rest = rw (add-one number, take-suc-set m number h k, append_assoc (take number m) (h ∷ []) _, q) (rw e at g.rest);
           }
 
 -- ---- all

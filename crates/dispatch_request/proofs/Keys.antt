@@ -75,11 +75,6 @@ items_few p =
 
 -- ---- the hashes
 
--- the bytes lent are those at the place
-pub hash_lent : (prefix : ℕ) (p : Place) (l : List ℕ) {r : ℕ} → r ≡ key_hash prefix (take (p.at + p.len - p.at) (drop p.at l)) → r ≡ key_hash prefix (bytes_at p l)
-unfolding bytes_at part
-hash_lent prefix p l h = let n : p.at + p.len - p.at ≡ p.len = omega arith in rw n at h
-
 pub length_hashes : (prefix : ℕ) (ks : List (List ℕ)) → length (hashes prefix ks) ≡ length ks
 unfolding hashes
 length_hashes prefix ks = length-map ks (key_hash prefix)

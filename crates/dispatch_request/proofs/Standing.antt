@@ -8,11 +8,12 @@ use lib.Dec.{eqb, leb, ltb}
 use lib.ListN.{length, take, drop, length-take, length-drop}
 use lib.Seq.{length-take-le}
 use borrow.Author.Tests.{eq-eqb, ne_eqb, eqb-false, le-leb, lt-leb, leb-true}
+use Rattle.std.specs.Prelude.{None, Some, Ok, Err}
 use Rattle.codec.specs.Bytes.{big, field, part}
 use Rattle.codec.specs.Choice.{pick}
 use Rattle.codec.specs.Lists.{All}
 use Rattle.codec.proofs.Choices.{both, passed}
-use Rattle.codec.proofs.Parts.{lent_part, part_drop}
+use Rattle.codec.proofs.Parts.{part_drop}
 use Rattle.units.specs.declared.Answer.{Answer}
 use Rattle.units.specs.declared.Answer.TheVariants.{Done}
 use Rattle.units.specs.declared.LogPosition.{LogPosition}
@@ -24,13 +25,10 @@ use Rattle.directory.specs.Directory.{queues as listed_queues, row_of}
 use Rattle.record.specs.declared.Fields.{Fields}
 use Rattle.record.specs.declared.Lengths.{Lengths}
 use Rattle.record.specs.declared.Record.{Record}
-use Rattle.record.specs.declared.Judged.{Judged}
-use Rattle.record.specs.declared.Judged.TheVariants as judged
-use Rattle.record.specs.declared.LogEntry.{LogEntry}
-use Rattle.record.specs.declared.LogEntry.TheVariants.{Stop, Blank, Message}
-use Rattle.record.specs.Record.{short_hosts, store_time_at, topic_at, properties_at, total_of, fields_of, message_of, lengths_in, record_in, host_bits_clear, fields_sound, topic_in, properties_in, entry_at}
+use Rattle.record.specs.declared.Entry.TheVariants.{Blank, Message}
+use Rattle.record.specs.Record.{LogEntry, short_hosts, store_time_at, total_of, fields_of, message_of, lengths_in, record_in, host_bits_clear, fields_sound, topic_in, properties_in, entry_at}
 use Rattle.record.specs.Reading.{Holds}
-use Rattle.record.specs.Judging.{judged_at}
+use Rattle.record.specs.Judging.{JudgedEntry, sound_entry, judged_at}
 use Rattle.record.proofs.Prefixes.{part_take}
 use Rattle.record.proofs.Judgements.{judged_stop, judged_blank, judged_sound}
 use Rattle.record.proofs.Soundness.{blank_padded, message_framed, message_sound}
@@ -39,10 +37,8 @@ use Rattle.commit_log.specs.Log.{Rest, seen, entry_within, place_bytes}
 use Rattle.commit_log.specs.Door.{Within}
 use Rattle.commit_log.proofs.ReadAndAppend.{entry_seen}
 use Rattle.dispatch_request.specs.declared.DispatchRequest.{DispatchRequest}
-use Rattle.dispatch_request.specs.declared.Next.{Next}
-use Rattle.dispatch_request.specs.declared.Next.TheVariants.{Stop as Stopped, Blank as Passed, Long, Request}
 use Rattle.dispatch_request.specs.Request.{transaction, makes_entry, makes_items, row_number, tag_of, record_hashes, type_of, hashes_of, request_of, View, stop, blank, request, made_of, stands_as, stands_at}
-use Rattle.dispatch_request.specs.Reading.{next_of, InFront, Reads}
+use Rattle.dispatch_request.specs.Reading.{Next, next_of, InFront, Reads}
 use Rattle.dispatch_request.specs.Inner.{Gathered, topic_of, properties_of}
 use Rattle.dispatch_request.specs.Claims.{StandsSmall, HashesFew, ItemsCounted, RequestFound, RequestListed, BlankFound}
 use Rattle.dispatch_request.proofs.Duties.{number_small, number_listed}
@@ -55,7 +51,7 @@ module _ (directory : List ℕ) (m : Record) (topic properties l : List ℕ) {ma
   own : Gathered (hashes_of m topic properties) 0 l items list
   own = rw e at gathered
 
-  pub request_long : length list < items → Reads (made_of directory m topic properties) Long list
+  pub request_long : length list < items → Reads (made_of directory m topic properties) (Ok (Message None)) list
   unfolding made_of next_of InFront pick
   request_long h =
       let n = own.long in
@@ -73,13 +69,13 @@ module _ (directory : List ℕ) (m : Record) (topic properties l : List ℕ) {ma
         → row ≡ row_number (row_of topic m.fields.queue_id directory) → offset ≡ m.fields.queue_offset
         → tags ≡ finder tags_name properties → tag ≡ tag_of tags properties → time ≡ m.fields.store_time
         → Reads (made_of directory m topic properties)
-        (Request (record { total = total; entry = entry; row = row; queue_offset = offset; tag_code = tag; store_time = time; items = items })) list
+        (Ok (Message (Some (record { total = total; entry = entry; row = row; queue_offset = offset; tag_code = tag; store_time = time; items = items })))) list
     unfolding made_of request_of next_of InFront pick
     request_read {tag} a b c d f t g =
         let k : tag ≡ tag_of (finder tags_name properties) properties = rw f at t in
         let n = counted in
         record {
-          next = (λ i. Request (record { total = a i; entry = b i; row = c i; queue_offset = d i; tag_code = k i; store_time = g i; items = n i }))
+          next = (λ i. Ok (Message (Some (record { total = a i; entry = b i; row = c i; queue_offset = d i; tag_code = k i; store_time = g i; items = n i }))))
               ∙ rw (le-leb (length (hashes_of m topic properties)) (length list) (omega arith));
           listed = λ i. listed;
         }
@@ -89,11 +85,11 @@ module _ (own : List ℕ) {k : Lengths} (lengths : k ≡ lengths_in short_hosts 
   pub lengths_held : Holds own (lengths_in short_hosts own) → Holds own k
   lengths_held h = rw lengths h
 
-  pub topic_lent : (let a = topic_at k.hosts k.body in take (a + k.topic - a) (drop a own)) ≡ topic_of own
-  topic_lent = lent_part k.topic (topic_at k.hosts k.body) own ∙ ap (λ (x : Lengths). topic_in x own) lengths
+  pub topic_lent : {topic : List ℕ} → topic ≡ topic_in k own → topic ≡ topic_of own
+  topic_lent e = e ∙ ap (λ (x : Lengths). topic_in x own) lengths
 
-  pub properties_lent : (let a = properties_at k.hosts k.body k.topic in take (a + k.properties - a) (drop a own)) ≡ properties_of own
-  properties_lent = lent_part k.properties (properties_at k.hosts k.body k.topic) own ∙ ap (λ (x : Lengths). properties_in x own) lengths
+  pub properties_lent : {properties : List ℕ} → properties ≡ properties_in k own → properties ≡ properties_of own
+  properties_lent e = e ∙ ap (λ (x : Lengths). properties_in x own) lengths
 
 -- of its own bytes, as they were read
 module _ (directory : List ℕ) (p : LogPosition) (own l : List ℕ) {topic properties : List ℕ} {flag : ℕ} {makes : Bool} {items : ℕ} {list : List ℕ}
@@ -106,21 +102,21 @@ module _ (directory : List ℕ) (p : LogPosition) (own l : List ℕ) {topic prop
   own_gathered : Gathered (record_hashes makes (topic_of own) (properties_of own)) 0 l items list
   own_gathered = rw (t, q) at gathered
 
-  pub own_long : length list < items → Reads (made_of directory (record_in short_hosts p own) (topic_of own) (properties_of own)) Long list
+  pub own_long : length list < items → Reads (made_of directory (record_in short_hosts p own) (topic_of own) (properties_of own)) (Ok (Message None)) list
   own_long h = request_long directory (record_in short_hosts p own) (topic_of own) (properties_of own) l own_makes own_gathered h
 
-  pub own_read : {k : Lengths} {id offset time row tag : ℕ} {entry : Bool} {tags : Value} → items ≤ length list → k ≡ lengths_in short_hosts own
+  pub own_read : {k : Lengths} {id offset time row tag : ℕ} {entry : Bool} {tags : Value} → items ≤ length list → total_of (lengths_in short_hosts own) ≡ length own → k ≡ lengths_in short_hosts own
       → id ≡ field big 4 12 own → offset ≡ field big 8 20 own → time ≡ field big 8 (store_time_at k.hosts) own
       → entry ≡ makes_entry (transaction flag) → row ≡ row_number (row_of topic id directory) → tags ≡ finder tags_name properties → tag ≡ tag_of tags properties
       → Reads (made_of directory (record_in short_hosts p own) (topic_of own) (properties_of own))
-      (Request (record { total = total_of k; entry = entry; row = row; queue_offset = record { 0 = offset }; tag_code = tag; store_time = time; items = items })) list
+      (Ok (Message (Some (record { total = length own; entry = entry; row = row; queue_offset = record { 0 = offset }; tag_code = tag; store_time = time; items = items })))) list
   unfolding message_of fields_of
-  own_read {k} {id} {offset} {time} fits lengths i o s en r f g =
+  own_read {k} {id} {offset} {time} fits size lengths i o s en r f g =
       let s' : time ≡ field big 8 (store_time_at short_hosts) own = rw lengths at s in
       let f' = rw q at f in
       let g' = rw q at g in
       request_read directory (record_in short_hosts p own) (topic_of own) (properties_of own) l own_makes own_gathered fits
-      (ap total_of lengths) (en ∙ rw system) (r ∙ rw (t, i)) (λ j. record { 0 = o j }) f' g' s'
+      (sym size) (en ∙ rw system) (r ∙ rw (t, i)) (λ j. record { 0 = o j }) f' g' s'
 
 -- ---- a record's own bytes in the log
 
@@ -158,7 +154,7 @@ module _ (directory : List ℕ) (g : Geometry) (v : View) (p : LogPosition) (ran
   message_made : n ≤ length (seen v.log g p v.end)
       → (let own = take n (seen v.log g p v.end) in
       Holds own (lengths_in short_hosts own)
-      → stands_as directory g v p (Message (record_in short_hosts p own)) ≡ made_of directory (record_in short_hosts p own) (topic_of own) (properties_of own))
+      → stands_as directory g v p (Ok (Message (record_in short_hosts p own))) ≡ made_of directory (record_in short_hosts p own) (topic_of own) (properties_of own))
   unfolding stands_as
   message_made below held =
       λ i. made_of directory (record_in short_hosts p (take n (seen v.log g p v.end))) (own_topic v.log g p v.end range n below held i)
@@ -167,7 +163,7 @@ module _ (directory : List ℕ) (g : Geometry) (v : View) (p : LogPosition) (ran
 -- ---- the ways through reading
 
 module _ (directory : List ℕ) (g : Geometry) (v : View) (p : LogPosition) (list : List ℕ) where
-  pub read_end : p.0 ≡ v.end.0 → Reads (stands_at directory g v p) (Stopped Done) list
+  pub read_end : p.0 ≡ v.end.0 → Reads (stands_at directory g v p) (Err Done) list
   unfolding stands_at next_of InFront pick
   read_end e = rw (eq-eqb p.0 v.end.0 e) (record { next = refl; listed = tt })
 
@@ -177,25 +173,25 @@ module _ (directory : List ℕ) (g : Geometry) (v : View) (p : LogPosition) (lis
     stands_as_is = rw (ne_eqb p.0 v.end.0 before, is)
 
 -- the rest and the bytes that the code found before the readable end, and how they were judged
-pub record Seen (g : Geometry) (v : View) (p : LogPosition) (r : ℕ) (s : List ℕ) (j : Judged) : Type 0 where
+pub record Seen (g : Geometry) (v : View) (p : LogPosition) (r : ℕ) (s : List ℕ) (j : JudgedEntry) : Type 0 where
   pub before : p.0 ≡ v.end.0 → ⊥
   pub rest : Rest g p r
   pub bytes : s ≡ seen v.log g p v.end
   pub judged : j ≡ judged_at p r s
 
-module _ (directory : List ℕ) (g : Geometry) (v : View) (p : LogPosition) (list : List ℕ) {r : ℕ} {s : List ℕ} {j : Judged} (x : Seen g v p r s j) where
+module _ (directory : List ℕ) (g : Geometry) (v : View) (p : LogPosition) (list : List ℕ) {r : ℕ} {s : List ℕ} {j : JudgedEntry} (x : Seen g v p r s j) where
   stands : {y : LogEntry} → y ≡ entry_at p r s → stands_at directory g v p ≡ stands_as directory g v p y
   stands f = stands_as_is directory g v p list (f ∙ entry_seen v.log g p v.end r s x.rest.is x.bytes) x.before
 
-  pub read_refused : {a : Answer} → j ≡ judged.Stop a → Reads (stands_at directory g v p) (Stopped a) list
+  pub read_refused : {a : Answer} → j ≡ Err a → Reads (stands_at directory g v p) (Err a) list
   unfolding stands_as next_of InFront
   read_refused {a} f = rw (stands (judged_stop p r s x.judged f)) (record { next = refl; listed = tt })
 
-  pub read_padded : {n : ℕ} → j ≡ judged.Blank n → Reads (stands_at directory g v p) (Passed n) list
+  pub read_padded : {n : ℕ} → j ≡ Ok (Blank n) → Reads (stands_at directory g v p) (Ok (Blank n)) list
   unfolding stands_as next_of InFront
   read_padded {n} f = rw (stands (judged_blank p r s x.judged f)) (record { next = refl; listed = tt })
 
-  module _ {n : ℕ} {t : Text} (f : j ≡ judged.Sound n t) where
+  module _ {n : ℕ} {t : Text} (f : j ≡ sound_entry n t) where
     stands_made : Within g (length v.log) p v.end
         → stands_at directory g v p ≡ made_of directory (record_in short_hosts p (take n s)) (topic_of (take n s)) (properties_of (take n s))
     stands_made range =
@@ -227,7 +223,7 @@ stop_blank e = let z : ◌≡◌ {A = ℕ} 0 1 = cc in omega arith
 pub record Made (directory : List ℕ) (g : Geometry) (v : View) (p : LogPosition) (q : DispatchRequest) (hs : List ℕ) : Type 0 where
   pub message : Record
   pub before : p.0 ≡ v.end.0 → ⊥
-  pub is : entry_within v.log g p v.end ≡ Message message
+  pub is : entry_within v.log g p v.end ≡ Ok (Message message)
   pub request_is : request_of directory message (place_bytes v.log g p message.topic) (place_bytes v.log g p message.properties) ≡ q
   pub hashes_are : hashes_of message (place_bytes v.log g p message.topic) (place_bytes v.log g p message.properties) ≡ hs
 
@@ -238,16 +234,16 @@ read directory g v p q hs e =
     go (entry_within v.log g p v.end) refl (eqb-false p.0 v.end.0 h.fails) h.rest
   where
     go : (y : LogEntry) → entry_within v.log g p v.end ≡ y → (p.0 ≡ v.end.0 → ⊥) → stands_as directory g v p y ≡ request q hs → Made directory g v p q hs
-    go (Stop a) is b h = absurd (stop_request h)
-    go (Blank n) is b h = absurd (blank_request h)
-    go (Message m) is b h = record { message = m; before = b; is = is; request_is = cc; hashes_are = cc }
+    go (Err a) is b h = absurd (stop_request h)
+    go (Ok (Blank n)) is b h = absurd (blank_request h)
+    go (Ok (Message m)) is b h = record { message = m; before = b; is = is; request_is = cc; hashes_are = cc }
 
 pub stands_small : StandsSmall
 stands_small directory g v p q hs e =
     let r = read directory g v p q hs e in
     subst (All (λ (h : ℕ). h < 2147483648)) r.hashes_are (record_small _ _ _)
 
-properties_short : (g : Geometry) (v : View) (p : LogPosition) (m : Record) → entry_within v.log g p v.end ≡ Message m → length (place_bytes v.log g p m.properties) ≤ 32767
+properties_short : (g : Geometry) (v : View) (p : LogPosition) (m : Record) → entry_within v.log g p v.end ≡ Ok (Message m) → length (place_bytes v.log g p m.properties) ≤ 32767
 unfolding entry_within message_of part
 properties_short g v p m e =
     let w = message_sound _ _ _ m e in
@@ -308,11 +304,11 @@ blank_found directory g v p n e =
     (passed (eqb p.0 v.end.0) (stop Done) (stands_as directory g v p (entry_within v.log g p v.end)) (blank n) stop_blank e).rest
   where
     go : (y : LogEntry) → entry_within v.log g p v.end ≡ y → stands_as directory g v p y ≡ blank n → (8 ≤ n) × (p.0 + n ≤ v.end.0)
-    go (Stop a) is h = absurd (stop_blank h)
-    go (Blank k) is h =
+    go (Err a) is h = absurd (stop_blank h)
+    go (Ok (Blank k)) is h =
         let same : k ≡ n = cc in
         let b = blank_padded _ _ _ k is in
         let c = seen_most v.log g p v.end in
         let d = b.1.below in
         (omega arith, omega arith)
-    go (Message m) is h = absurd (blank_request (sym h))
+    go (Ok (Message m)) is h = absurd (blank_request (sym h))

@@ -2,11 +2,10 @@
 use Prim.Native.Nat.{ℕ, ◌+◌, ◌-◌}
 use mathlib.Core.Path.{◌≡◌, sym, ◌∙◌, ap}
 use mathlib.Core.Bool.{Bool, true, ◌&&◌}
-use mathlib.Core.List.{List, ◌∷◌}
+use mathlib.Core.List.{List, [], ◌∷◌, map}
 use lib.ListN.{take, drop}
 use Rattle.codec.specs.Lists.{All}
 use Rattle.codec.proofs.Choices.{both}
-use Rattle.codec.proofs.Parts.{lent_part}
 use Rattle.units.specs.declared.Place.{Place}
 use Rattle.utf8.specs.Utf8.{valid, plain, Known}
 use Rattle.utf8.proofs.Plains.{plain_part}
@@ -14,8 +13,9 @@ use Rattle.properties.specs.declared.Found.{Found}
 use Rattle.properties.specs.declared.Text.{Text}
 use Rattle.properties.specs.Parts.{bytes_at}
 use Rattle.properties.specs.Finder.{scanned, found_bytes}
-use Rattle.properties.specs.Keys.{keys_from}
-use Rattle.properties.specs.Claims.{KeyLeads}
+use Rattle.properties.specs.Keys.{key_places}
+use Rattle.properties.proofs.KeyTexts.{keys_valid}
+use Rattle.dispatch_request.specs.Request.{keys_at}
 use Rattle.record.specs.Record.{values_valid, text_rules}
 use Rattle.record.specs.Judging.{text_of, TextKnown}
 use Rattle.record.proofs.TextRules.{found_plain}
@@ -58,25 +58,20 @@ module _ {topic properties : List ℕ} {t : Text} (k : TextKnown topic propertie
   pub unique_key_known : Known t.plain (found_bytes t.values.unique_key properties)
   unique_key_known = value_known t.values.unique_key first_two.1
 
--- the keys from a place on are texts
-abbrev pub KeysLeft : List ℕ → ℕ → Type 0
-KeysLeft v at = All (λ (p : Place). valid (bytes_at p v) ≡ true) (keys_from at v)
+-- the keys of a text that is known are known
+abbrev pub KeysKnown : Bool → List (List ℕ) → Type 0
+KeysKnown so keys = All (λ (key : List ℕ). Known so key) keys
 
-module _ (v : List ℕ) {at : ℕ} (p : Place) (l : KeysLeft v at) (leads : KeyLeads at v p) where
-  first_left : All (λ (p : Place). valid (bytes_at p v) ≡ true) (p ∷ keys_from (p.at + p.len) v)
-  first_left = rw leads.3 at l
+pub keys_all_known : (so : Bool) (v : List ℕ) → Known so v → KeysKnown so (keys_at (key_places v) v)
+unfolding keys_at bytes_at
+keys_all_known so v k = go (key_places v) (keys_valid v k.text)
+  where
+    known : (p : Place) → valid (bytes_at p v) ≡ true → Known so (bytes_at p v)
+    known p e = record { text = e; own = λ q. plain_part p.len p.at v (k.own q) }
 
-  pub key_known : (so : Bool) → Known so v → Known so (bytes_at p v)
-  unfolding bytes_at
-  key_known so k = record { text = first_left.0; own = λ e. plain_part p.len p.at v (k.own e) }
-
-  pub keys_behind : KeysLeft v (p.at + p.len)
-  keys_behind = first_left.1
-
--- a key as it is lent
-pub lent_known : (so : Bool) (v : List ℕ) (p : Place) → Known so (bytes_at p v) → Known so (take (p.at + p.len - p.at) (drop p.at v))
-unfolding bytes_at
-lent_known so v p k = rw (lent_part p.len p.at v) k
+    go : (ps : List Place) → All (λ (p : Place). valid (bytes_at p v) ≡ true) ps → KeysKnown so (map (λ p. bytes_at p v) ps)
+    go [] h = tt
+    go (p ∷ ps) h = (known p h.0, go ps h.1)
 
 -- topic and properties as they are lent
 pub text_lent : {topic properties a b : List ℕ} {t : Text} → topic ≡ a → properties ≡ b → TextKnown a b t → TextKnown topic properties t

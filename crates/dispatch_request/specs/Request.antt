@@ -1,5 +1,5 @@
 -- What a record makes by itself: document 01, rule 5 of "One dispatch step", and "Properties and hashes". Assumes nothing.
-use Rattle.std.specs.Prelude.{ℕ, ◌*◌, ◌/◌, ◌%◌, Bool, true, false, not, ◌&&◌, ◌||◌, List, [], ◌∷◌, ◌++◌, map, eqb, length}
+use Rattle.std.specs.Prelude.{ℕ, ◌*◌, ◌/◌, ◌%◌, Bool, true, false, not, ◌&&◌, ◌||◌, Option, None, Some, Ok, Err, List, [], ◌∷◌, ◌++◌, map, eqb, length}
 use Rattle.codec.specs.Bytes.{same}
 use Rattle.codec.specs.Choice.{pick}
 use Rattle.units.specs.declared.Answer.{Answer}
@@ -13,12 +13,10 @@ use Rattle.properties.specs.declared.Scanned.{Scanned}
 use Rattle.properties.specs.Parts.{bytes_at}
 use Rattle.properties.specs.Finder.{tags_name, finder, scanned, found_bytes}
 use Rattle.properties.specs.Keys.{key_places}
-use Rattle.directory.specs.declared.Located.{Located}
-use Rattle.directory.specs.declared.Located.TheVariants.{Unlisted, Row}
 use Rattle.directory.specs.Directory.{row_of}
+use Rattle.record.specs.Record.{LogEntry}
 use Rattle.record.specs.declared.Record.{Record}
-use Rattle.record.specs.declared.LogEntry.{LogEntry}
-use Rattle.record.specs.declared.LogEntry.TheVariants.{Stop, Blank, Message}
+use Rattle.record.specs.declared.Entry.TheVariants.{Blank, Message}
 use Rattle.commit_log.specs.declared.Geometry.{Geometry}
 use Rattle.commit_log.specs.Log.{entry_within, place_bytes}
 use Rattle.dispatch_request.specs.declared.DispatchRequest.{DispatchRequest}
@@ -40,9 +38,9 @@ makes_items type = not (eqb type 12)
 -- ---- the row
 
 -- the row of a queue, by its number; 16 where it is not listed
-unfoldable pub row_number : Located → ℕ
-row_number Unlisted = 16
-row_number (Row i) = i
+unfoldable pub row_number : Option ℕ → ℕ
+row_number None = 16
+row_number (Some i) = i
 
 -- ---- the tag code
 
@@ -140,9 +138,9 @@ made_of directory m topic properties = request (request_of directory m topic pro
 
 -- rules 2 to 4 have read an entry at p
 unfoldable pub stands_as : List ℕ → Geometry → View → LogPosition → LogEntry → Stands
-stands_as directory g v p (Stop a) = stop a
-stands_as directory g v p (Blank n) = blank n
-stands_as directory g v p (Message m) = made_of directory m (place_bytes v.log g p m.topic) (place_bytes v.log g p m.properties)
+stands_as directory g v p (Err a) = stop a
+stands_as directory g v p (Ok (Blank n)) = blank n
+stands_as directory g v p (Ok (Message m)) = made_of directory m (place_bytes v.log g p m.topic) (place_bytes v.log g p m.properties)
 
 -- rule 1: "Position = E: 0"
 unfoldable pub stands_at : List ℕ → Geometry → View → LogPosition → Stands

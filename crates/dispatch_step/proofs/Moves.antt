@@ -8,6 +8,7 @@ use Rattle.codec.proofs.Choices.{held}
 use Rattle.units.specs.declared.Answer.{Answer}
 use Rattle.units.specs.declared.Answer.TheVariants.{Done}
 use Rattle.units.specs.Answers.{number_of}
+use Rattle.units.proofs.Checked.{done_only}
 use Rattle.consume_queue.specs.Entering.{entry_answer}
 use Rattle.index_file.specs.Items.{items_answer}
 use Rattle.machine.specs.Steps.{Outcome, moved, stopped}
@@ -18,7 +19,6 @@ use Rattle.dispatch_request.proofs.Standing.{request_found, blank_found}
 use Rattle.dispatch_step.specs.declared.Sizes.{Sizes}
 use Rattle.dispatch_step.specs.Step.{Fixed, State, position_of, unless, written, filed, step_as, stands_here, step_of}
 use Rattle.dispatch_step.specs.Inner.{Moves, over_blank, over_record}
-use Rattle.dispatch_step.proofs.Filing.{done_only}
 
 -- a choice that moved was no stop
 pub went : (a : Answer) (next : Outcome State) (t : State) → unless a next ≡ moved t → (a ≡ Done) × (next ≡ moved t)

@@ -1,6 +1,5 @@
 -- What the door leaves for a step. Assumes nothing.
-use Rattle.std.specs.Prelude.{ℕ, ◌≡◌, true, length}
-use Rattle.directory.specs.declared.RowCount.TheVariants.{Rows}
+use Rattle.std.specs.Prelude.{ℕ, ◌≡◌, true, Some, length}
 use Rattle.commit_log.specs.Door.{GeometryFits, Within}
 use Rattle.consume_queue.specs.Queue.{entries_ok, queue_rows, counts_ok}
 use Rattle.index_file.specs.Room.{IndexSized}
@@ -11,7 +10,7 @@ use Rattle.dispatch_step.specs.Step.{Fixed, State}
 pub record Ready (f : Fixed) (s : State) : Type 0 where
   pub rows : ℕ
   pub entries : entries_ok f.sizes.queue_entries ≡ true
-  pub listed : queue_rows f.directory f.sizes.queue_entries (length s.queues) ≡ Rows rows
+  pub listed : queue_rows f.directory f.sizes.queue_entries (length s.queues) ≡ Some rows
   pub counted : counts_ok 16 f.sizes.queue_entries s.counts ≡ true
   pub sized : IndexSized f.sizes.index.slot_count f.sizes.index.item_count s.index
 

@@ -24,15 +24,8 @@ pub struct Progress {
     pub position: LogPosition,
 }
 
-// What filing comes to: the progress behind the record, or a stop.
-#[derive(Clone, Copy)]
-pub enum Filed {
-    Moved(Progress),
-    Stopped(Answer),
-}
-
-// Rules 6 and 7: every check on the state before, then entry and items. The list has the hashes of the items; whether their slots are good
-// may be known already.
+// Rules 6 and 7: every check on the state before, then entry and items; the progress behind the record, or the answer of the rule that stops it. The
+// list has the hashes of the items; whether their slots are good may be known already.
 pub fn file(
     request: DispatchRequest,
     list: &[u32],
@@ -42,36 +35,27 @@ pub fn file(
     counts: &mut [u64; 16],
     queues: &mut [u8],
     index: &mut [u8],
-) -> Filed
+) -> Result<Progress, Answer>
     requires { Fileable sizes request list.now judged (state_of progress counts.old queues.old index.old) }
     ensures { Files sizes request list.now (state_of progress counts.old queues.old index.old) result counts.new queues.new index.new }
 {
-    let entries = sizes.queue_entries;
-    let z = sizes.index;
+    let DispatchRequest {
+        total,
+        entry,
+        row,
+        queue_offset,
+        tag_code,
+        store_time,
+        ..
+    } = request;
     let position = progress.position;
-    let offset = request.queue_offset;
-    let halt = consume_queue::entry_answer(request.entry, request.row, offset, entries, counts);
-    if halt.number() != 0 {
-        return Filed::Stopped(halt);
-    }
-    let broken = index_file::items_answer(index, z, position, list, judged);
-    if broken.number() != 0 {
-        return Filed::Stopped(broken);
-    }
+    let entries = sizes.queue_entries;
+    consume_queue::entry_answer(entry, row, queue_offset, entries, counts)?;
+    index_file::items_answer(index, sizes.index, position, list, judged)?;
     consume_queue::enter(
-        request.entry,
-        request.row,
-        queues,
-        counts,
-        entries,
-        position,
-        request.total,
-        request.tag_code,
+        entry, row, queues, counts, entries, position, total, tag_code,
     );
-    index_file::put_all(index, z, position, request.store_time, list);
-    let behind = position.0 + request.total;
-    let next = Progress {
-        position: LogPosition(behind),
-    };
-    Filed::Moved(next)
+    index_file::put_all(index, sizes.index, position, store_time, list);
+    let behind = LogPosition(position.0 + total);
+    Ok(Progress { position: behind })
 }

@@ -7,7 +7,7 @@ use native.Mathlib.Omega.{arith}
 use native.Mathlib.Nat.{zero-add, add-zero, suc-add}
 use lib.Dec.{leb, ltb, eqb}
 use lib.ListN.{length, take, drop, take-append-drop}
-use borrow.Author.Tests.{eq-eqb, ne_eqb, lt-leb, ltb-false, leb-false, eqb-true, eqb-false}
+use borrow.Author.Tests.{lt-leb, ltb-false, leb-false, eqb-true, eqb-false}
 use Rattle.codec.specs.Bytes.{big, part, field}
 use Rattle.codec.specs.Choice.{pick}
 use Rattle.codec.proofs.Choices.{neither}
@@ -72,28 +72,29 @@ unfolding is_full
 full_judged n l items eu = rw eu
 
 module _ (k n : ℕ) (l : List ℕ) (position : ℕ) (hs : List ℕ) where
-  pub answer_none : length hs ≡ 0 → Done ≡ items_answer k n l position hs
-  unfolding items_answer pick
-  answer_none z = rw (eq-eqb _ _ z)
-
-  module _ (some : length hs ≡ 0 → ⊥) where
-    pub answer_ahead : {a : Bool} → a ≡ is_ahead l position → a ≡ true → IndexAhead ≡ items_answer k n l position hs
+  module _ {z : Bool} (ez : z ≡ eqb (length hs) 0) where
+    pub answer_none : z ≡ true → Done ≡ items_answer k n l position hs
     unfolding items_answer pick
-    answer_ahead ea h = rw (ne_eqb _ _ some, ← ea, h)
+    answer_none h = rw (← ez, h)
 
-    module _ {a : Bool} (ea : a ≡ is_ahead l position) (behind : a ≡ false) where
-      pub answer_full : {f : Bool} → f ≡ is_full n l (length hs) → f ≡ true → IndexFull ≡ items_answer k n l position hs
+    module _ (some : z ≡ false) where
+      pub answer_ahead : {a : Bool} → a ≡ is_ahead l position → a ≡ true → IndexAhead ≡ items_answer k n l position hs
       unfolding items_answer pick
-      answer_full ef h = rw (ne_eqb _ _ some, ← ea, behind, ← ef, h)
+      answer_ahead ea h = rw (← ez, some, ← ea, h)
 
-      module _ {f : Bool} (ef : f ≡ is_full n l (length hs)) (room : f ≡ false) {b : Bool} (eb : b ≡ any_bad_slot k l hs) where
-        pub answer_bad : b ≡ true → ChainBroken ≡ items_answer k n l position hs
+      module _ {a : Bool} (ea : a ≡ is_ahead l position) (behind : a ≡ false) where
+        pub answer_full : {f : Bool} → f ≡ is_full n l (length hs) → f ≡ true → IndexFull ≡ items_answer k n l position hs
         unfolding items_answer pick
-        answer_bad h = rw (ne_eqb _ _ some, ← ea, behind, ← ef, room, ← eb, h)
+        answer_full ef h = rw (← ez, some, ← ea, behind, ← ef, h)
 
-        pub answer_fine : b ≡ false → Done ≡ items_answer k n l position hs
-        unfolding items_answer pick
-        answer_fine h = rw (ne_eqb _ _ some, ← ea, behind, ← ef, room, ← eb, h)
+        module _ {f : Bool} (ef : f ≡ is_full n l (length hs)) (room : f ≡ false) {b : Bool} (eb : b ≡ any_bad_slot k l hs) where
+          pub answer_bad : b ≡ true → ChainBroken ≡ items_answer k n l position hs
+          unfolding items_answer pick
+          answer_bad h = rw (← ez, some, ← ea, behind, ← ef, room, ← eb, h)
+
+          pub answer_fine : b ≡ false → Done ≡ items_answer k n l position hs
+          unfolding items_answer pick
+          answer_fine h = rw (← ez, some, ← ea, behind, ← ef, room, ← eb, h)
 
 pub checked_room : CheckedRoom
 unfolding items_answer is_full pick

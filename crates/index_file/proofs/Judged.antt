@@ -1,14 +1,17 @@
 -- Sizes and header, judged by the tests of their functions. Assumes nothing.
 use Prim.Native.Nat.{ℕ, ◌+◌, ◌*◌, ◌-◌, ◌<◌, ◌≤◌, max}
-use mathlib.Core.Path.{◌≡◌, sym, ◌∙◌}
+use mathlib.Core.Path.{◌≡◌, refl, sym, ◌∙◌}
 use mathlib.Core.Bool.{Bool, true, false, ◌&&◌, ◌||◌}
 use mathlib.Core.List.{List}
 use native.Mathlib.Omega.{arith}
 use lib.Dec.{leb, ltb, eqb}
 use lib.ListN.{length}
 use borrow.Author.Tests.{leb-true, eqb-true, le-leb, lt-ltb, le-ltb}
+use Rattle.std.proofs.Common.{Some, None}
+use Rattle.codec.specs.Choice.{pick}
 use Rattle.codec.proofs.Choices.{both, not_so}
-use Rattle.index_file.specs.Index.{used_count, filled_slots, first_time, last_time, first_position, last_position, time_ok, position_ok, untouched, sizes_ok, header_sound}
+use Rattle.units.specs.declared.Answer.TheVariants.{BadSizes, BadHeader}
+use Rattle.index_file.specs.Index.{used_count, filled_slots, first_time, last_time, first_position, last_position, time_ok, position_ok, untouched, sizes_ok, header_sound, index_refusal, item_at}
 use Rattle.index_file.specs.Claims.{DoorSized}
 
 -- ---- sizes
@@ -30,16 +33,21 @@ module _ (k n : ℕ) where
       let c = both (leb 1 k) (leb k 5000000) b.0 in
       record { some = leb-true 1 k c.0; most = leb-true k 5000000 c.1; two = leb-true 2 n b.1; few = leb-true n 20000000 a.1 }
 
-  pub sizes_in_is : limits ≡ true → SizesIn k n
-  sizes_in_is h = limits_in h
+  -- both counts judged by their ranges, and then the length
+  module _ (len : ℕ) {a b : Bool} (ea : a ≡ (leb 1 k && leb k 5000000)) (eb : b ≡ (leb 2 n && leb n 20000000)) where
+    judged : {t : Bool} → (a && b) ≡ t → sizes_ok k n len ≡ (t && eqb len (40 + 4 * k + 20 * n))
+    unfolding sizes_ok
+    judged e = rw (← e, ea, eb) (go (leb 1 k && leb k 5000000) (leb 2 n))
+      where
+        go : (x y : Bool) → (x && y && leb n 20000000 && eqb len (40 + 4 * k + 20 * n)) ≡ ((x && (y && leb n 20000000)) && eqb len (40 + 4 * k + 20 * n))
+        go true y = refl
+        go false y = refl
 
-  pub sizes_out : (len : ℕ) → limits ≡ false → false ≡ sizes_ok k n len
-  unfolding sizes_ok
-  sizes_out len h = rw h
+    pub sizes_out : (a && b) ≡ false → (a && b) ≡ sizes_ok k n len
+    sizes_out h = h ∙ sym (judged h)
 
-  pub sizes_judged : (len : ℕ) → limits ≡ true → eqb len (40 + 4 * k + 20 * n) ≡ sizes_ok k n len
-  unfolding sizes_ok
-  sizes_judged len h = rw h
+    pub sizes_judged : (a && b) ≡ true → eqb len (40 + 4 * k + 20 * n) ≡ sizes_ok k n len
+    sizes_judged h = sym (judged h)
 
   pub sizes_facts : (len : ℕ) → sizes_ok k n len ≡ true → SizesIn k n × (len ≡ 40 + 4 * k + 20 * n)
   unfolding sizes_ok
@@ -136,6 +144,30 @@ module _ (n : ℕ) (l : List ℕ) where
 
     pub has_none : used ≤ 1 → (eqb a 0 && eqb b 0 && eqb c 0 && eqb d 0) ≡ header_sound n l
     has_none h = sym (left_over ∙ rw (le-ltb 1 used h))
+
+-- ---- the door, by both
+
+module _ (k n : ℕ) (l : List ℕ) {s : Bool} (es : s ≡ sizes_ok k n (length l)) where
+  pub refused_sizes : s ≡ false → Some BadSizes ≡ index_refusal k n l
+  unfolding index_refusal pick
+  refused_sizes a = rw (← es, a)
+
+  module _ (a : s ≡ true) {h : Bool} (eh : h ≡ header_sound n l) where
+    pub refused_header : h ≡ false → Some BadHeader ≡ index_refusal k n l
+    unfolding index_refusal pick
+    refused_header b = rw (← es, a, ← eh, b)
+
+    module _ (b : h ≡ true) where
+      pub not_refused : None ≡ index_refusal k n l
+      unfolding index_refusal pick
+      not_refused = rw (← es, a, ← eh, b)
+
+      -- what an index that was opened keeps
+      pub open_facts : (item_at k (used_count l) ≤ length l) × (used_count l ≤ 20000000) × (first_time l ≤ 281474976710655)
+      open_facts =
+          let f = sizes_facts k n (length l) (sym es ∙ a) in
+          let d = header_facts n l (sym eh ∙ b) in
+          ((let x = f.1 in let y = d.used in omega arith), omega (arith, f.0.few, d.used), d.first_time_is)
 
 pub door_sized : DoorSized
 door_sized k n l s h =

@@ -26,12 +26,12 @@ use Rattle.index_file.proofs.Stores.{length_store, stored, kept_before, kept_aft
 
 -- ---- the steps of `put_entry`
 
-pub entry_steps : (k u hash : ℕ) (position : LogPosition) (seconds : ℕ) (l : List ℕ) {slot previous at : ℕ} {a b : List ℕ}
-    → slot ≡ slot_at (slot_of k hash) → previous ≡ field big 4 slot l → at ≡ item_at k u
-    → a ≡ overwrite l at (item_bytes (record { hash = hash; position = position; seconds = seconds; previous = previous })) → b ≡ store 4 slot u a
+pub entry_steps : (k u hash : ℕ) (position : LogPosition) (seconds : ℕ) (l : List ℕ) {slot previous : ℕ} {a b : List ℕ}
+    → slot ≡ slot_at (slot_of k hash) → previous ≡ field big 4 slot l
+    → a ≡ overwrite l (item_at k u) (item_bytes (record { hash = hash; position = position; seconds = seconds; previous = previous })) → b ≡ store 4 slot u a
     → Entered k u hash position seconds l previous b
 unfolding with_item
-entry_steps k u hash position seconds l hs hp ha hw hb = record { previous = (cc); stands = (cc) }
+entry_steps k u hash position seconds l hs hp hw hb = record { previous = (cc); stands = (cc) }
 
 pub length_entry : (k u hash : ℕ) (position : LogPosition) (seconds : ℕ) (l : List ℕ) → length (with_item k u hash position seconds l) ≡ length l
 unfolding with_item

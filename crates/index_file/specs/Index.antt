@@ -1,9 +1,11 @@
 -- The index file over its bytes: header, slots, items, and one item put. Document 01, section "The index". Assumes nothing.
-use Rattle.std.specs.Prelude.{ℕ, ◌+◌, ◌*◌, ◌-◌, ◌/◌, min, max, Bool, ◌&&◌, ◌||◌, List, [], ◌∷◌, leb, ltb, eqb}
+use Rattle.std.specs.Prelude.{ℕ, ◌+◌, ◌*◌, ◌-◌, ◌/◌, min, max, Bool, ◌&&◌, ◌||◌, List, [], ◌∷◌, leb, ltb, eqb, length, Option, Some, None}
 use Rattle.codec.specs.Bytes.{big, bytes_of, field, overwrite}
 use Rattle.codec.specs.Choice.{pick}
 use Rattle.codec.specs.Layout.{number, layout}
 use Rattle.java_hash.specs.Hash.{slot_of}
+use Rattle.units.specs.declared.Answer.{Answer}
+use Rattle.units.specs.declared.Answer.TheVariants.{BadSizes, BadHeader}
 use Rattle.units.specs.declared.LogPosition.{LogPosition}
 use Rattle.index_file.specs.declared.Item.{Item}
 
@@ -54,6 +56,10 @@ header_sound n index =
     && (time_ok (first_time index) && time_ok (last_time index))
     && (position_ok (first_position index) && position_ok (last_position index))
     && (ltb 1 (used_count index) || untouched index)
+
+-- what an index is refused with, 1 before 4: its sizes or its header are not in order
+unfoldable pub index_refusal : ℕ → ℕ → List ℕ → Option Answer
+index_refusal k n index = pick (sizes_ok k n (length index)) (pick (header_sound n index) None (Some BadHeader)) (Some BadSizes)
 
 -- slot s, of 4 bytes, behind the header
 abbrev pub slot_at : ℕ → ℕ

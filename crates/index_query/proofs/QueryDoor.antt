@@ -1,12 +1,13 @@
 -- A query's door, and what the walk behind it may count on. Assumes nothing.
-use Prim.Native.Nat.{ℕ, ◌≤◌, ◌<◌}
-use mathlib.Core.Path.{◌≡◌, sym, ap, ◌∙◌}
+use Prim.Native.Nat.{ℕ, ◌≤◌}
+use mathlib.Core.Path.{◌≡◌, refl, sym, ap, ◌∙◌}
 use mathlib.Core.Bool.{Bool, true, false, not, ◌&&◌}
 use mathlib.Core.List.{List}
-use native.Mathlib.Omega.{arith}
 use lib.Dec.{leb}
 use lib.ListN.{length}
-use borrow.Author.Tests.{leb-true, not-false}
+use Rattle.std.proofs.Common.{Some, None}
+use Rattle.std.proofs.lemmas.Option.{none-some, same_Some}
+use borrow.Author.Tests.{leb-true}
 use Rattle.codec.specs.Choice.{pick}
 use Rattle.codec.proofs.Choices.{both}
 use Rattle.utf8.specs.Utf8.{valid, plain, Known}
@@ -14,26 +15,22 @@ use Rattle.utf8.proofs.Plains.{plain_valid}
 use Rattle.java_hash.specs.Hash.{index_hash}
 use Rattle.units.specs.declared.Answer.{Answer}
 use Rattle.units.specs.declared.Answer.TheVariants.{BadSizes, BadHeader, Malformed}
-use Rattle.index_file.specs.Index.{used_count, time_ok, sizes_ok, header_sound, item_at}
-use Rattle.index_file.proofs.Judged.{sizes_facts, header_facts}
+use Rattle.index_file.specs.Index.{first_time, time_ok, sizes_ok, header_sound, index_refusal}
 use Rattle.index_query.specs.declared.Criteria.{Criteria}
-use Rattle.index_query.specs.declared.Hashed.{Hashed}
 use Rattle.index_query.specs.declared.Queried.{Queried}
-use Rattle.index_query.specs.Walk.{criteria_of, ends, search}
+use Rattle.index_query.specs.Walk.{Walked, criteria_of, ends, search}
 use Rattle.index_query.specs.Query.{wanted_of, text_fits, query_fits, query_ok, query_walk, QueryOutcome, reported, queried}
-use Rattle.index_query.specs.Inner.{HashedIf}
+use Rattle.index_query.specs.Inner.{hash_if}
 
 -- ---- the ways out of `hash_if`
 
-no_hash : (x y : ℕ) → false ≡ true → x ≡ y
-no_hash x y e = let o : ◌≡◌ {A = ℕ} 0 1 = cc in absurd (omega arith)
+pub unfit : {fits : Bool} (topic key : List ℕ) → fits ≡ false → None ≡ hash_if fits topic key
+unfolding hash_if pick
+unfit topic key a = rw a
 
-pub unfit : {fits : Bool} (topic key : List ℕ) → fits ≡ false → HashedIf fits topic key (record { well = false; hash = 0 })
-unfit {fits} topic key a = record { is = rw a; hashed = no_hash _ _ }
-
-pub unreadable : {fits t k : Bool} (topic key : List ℕ) → fits ≡ true → t ≡ valid topic → k ≡ valid key → (t && k) ≡ false → HashedIf fits topic key (record { well = false; hash = 0 })
-unreadable {fits} topic key a et ek b =
-    record { is = rw (a, ← et, ← ek) (sym b); hashed = no_hash _ _ }
+pub unreadable : {fits t k : Bool} (topic key : List ℕ) → fits ≡ true → t ≡ valid topic → k ≡ valid key → (t && k) ≡ false → None ≡ hash_if fits topic key
+unfolding hash_if pick
+unreadable topic key a et ek b = rw (a, ← et, ← ek, b)
 
 -- what is known of topic and key before they are hashed
 abbrev pub KnownBoth : Bool → List ℕ → List ℕ → Type 0
@@ -53,16 +50,29 @@ module _ (topic key : List ℕ) {p q : Bool} (ep : p ≡ plain topic) (eq : q �
       let b = both t k h in
       (record { text = sym et ∙ b.0; own = λ e. (own e).0 }, record { text = sym ek ∙ b.1; own = λ e. (own e).1 })
 
-pub hashed_both : {fits so : Bool} {h : ℕ} (topic key : List ℕ) → fits ≡ true → KnownBoth so topic key → h ≡ index_hash topic key → HashedIf fits topic key (record { well = true; hash = h })
-hashed_both {fits} topic key a k e = record { is = rw (a, k.0.text, k.1.text); hashed = λ w. e }
+pub hashed_both : {fits so : Bool} {h : ℕ} (topic key : List ℕ) → fits ≡ true → KnownBoth so topic key → h ≡ index_hash topic key → Some h ≡ hash_if fits topic key
+unfolding hash_if pick
+hashed_both topic key a k e = rw (a, k.0.text, k.1.text, e)
 
 -- ---- the ways out of `query`
 
--- a query that fits and whose text is UTF-8 is well-formed
-well_formed : (topic key : List ℕ) (first last most places : ℕ) {fits : Bool} {r : Hashed} → fits ≡ query_fits (length topic) (length key) first last most places
-    → HashedIf fits topic key r → r.well ≡ query_ok topic key first last most places
-unfolding query_ok
-well_formed topic key first last most places e h = h.is ∙ ap (λ (t : Bool). t && (valid topic && valid key)) e
+-- a query that fits has a hash if its text is UTF-8: then it is well-formed
+module _ (fits : Bool) (topic key : List ℕ) where
+  no_hash : None ≡ hash_if fits topic key → (fits && (valid topic && valid key)) ≡ false
+  unfolding hash_if pick
+  no_hash e = go (fits && (valid topic && valid key)) e
+    where
+      go : (b : Bool) → None ≡ pick b (Some (index_hash topic key)) None → b ≡ false
+      go true e = absurd (none-some _ e)
+      go false e = refl
+
+  some_hash : {hash : ℕ} → Some hash ≡ hash_if fits topic key → ((fits && (valid topic && valid key)) ≡ true) × (hash ≡ index_hash topic key)
+  unfolding hash_if pick
+  some_hash {hash} e = go (fits && (valid topic && valid key)) e
+    where
+      go : (b : Bool) → Some hash ≡ pick b (Some (index_hash topic key)) None → (b ≡ true) × (hash ≡ index_hash topic key)
+      go true e = (refl, same_Some _ _ e)
+      go false e = absurd (none-some _ (sym e))
 
 module _ (k n : ℕ) (l topic key : List ℕ) (first last wanted : ℕ) (out : List ℕ) where
   abbrev Whole : QueryOutcome → Type 0
@@ -73,35 +83,48 @@ module _ (k n : ℕ) (l topic key : List ℕ) (first last wanted : ℕ) (out : L
   unfolding queried reported
   refused a r e h = rw (h, e)
 
-  module _ {s : Bool} (es : s ≡ sizes_ok k n (length l)) where
-    pub refused_sizes : {r : Queried} → s ≡ false → r ≡ record { answer = BadSizes; found = 0; read = 0 } → Whole (record { made = r; out = out })
-    unfolding query_walk pick
-    refused_sizes {r} a e = refused BadSizes r e (rw (← es, a))
+  pub refused_index : {a : Answer} {r : Queried} → Some a ≡ index_refusal k n l → r ≡ record { answer = a; found = 0; read = 0 } → Whole (record { made = r; out = out })
+  unfolding query_walk index_refusal pick
+  refused_index {a} {r} h e = refused a r e (go (sizes_ok k n (length l)) (header_sound n l) _ h)
+    where
+      go : (s h : Bool) (rest : Walked) → Some a ≡ pick s (pick h None (Some BadHeader)) (Some BadSizes)
+          → pick (not s) (ends BadSizes) (pick (not h) (ends BadHeader) rest) ≡ ends a
+      go true true rest e = absurd (none-some a (sym e))
+      go true false rest e = ap ends (sym (same_Some a BadHeader e))
+      go false h rest e = ap ends (sym (same_Some a BadSizes e))
 
-    module _ (a : s ≡ true) {h : Bool} (eh : h ≡ header_sound n l) where
-      pub refused_header : {r : Queried} → h ≡ false → r ≡ record { answer = BadHeader; found = 0; read = 0 } → Whole (record { made = r; out = out })
-      unfolding query_walk pick
-      refused_header {r} b e = refused BadHeader r e (rw (← es, a, ← eh, b))
+  module _ (opened : None ≡ index_refusal k n l) {most : ℕ} (em : most ≡ wanted_of wanted) {fits : Bool} (ef : fits ≡ query_fits (length topic) (length key) first last most (length out)) where
+    -- an index that is opened is not refused
+    past : query_walk k n l topic key first last wanted (length out)
+        ≡ pick (not (fits && (valid topic && valid key))) (ends Malformed) (search k l (criteria_of l (index_hash topic key) first last) most)
+    unfolding query_walk query_ok index_refusal pick
+    past = go (sizes_ok k n (length l)) (header_sound n l) opened ∙ rw (← em, ← ef)
+      where
+        go : (s h : Bool) → None ≡ pick s (pick h None (Some BadHeader)) (Some BadSizes) → {rest : Walked}
+            → pick (not s) (ends BadSizes) (pick (not h) (ends BadHeader) rest) ≡ rest
+        go true true e = refl
+        go true false e = absurd (none-some BadHeader e)
+        go false h e = absurd (none-some BadSizes e)
 
-      module _ (b : h ≡ true) {most : ℕ} (em : most ≡ wanted_of wanted) {fits : Bool} (ef : fits ≡ query_fits (length topic) (length key) first last most (length out)) {g : Hashed} (eg : HashedIf fits topic key g) where
-        pub refused_query : {r : Queried} → not g.well ≡ true → r ≡ record { answer = Malformed; found = 0; read = 0 } → Whole (record { made = r; out = out })
-        unfolding query_walk pick
-        refused_query {r} c e = refused Malformed r e (rw (← es, a, ← eh, b, ← em, ← well_formed topic key first last most (length out) ef eg, c))
+    pub refused_query : {r : Queried} → None ≡ hash_if fits topic key → r ≡ record { answer = Malformed; found = 0; read = 0 } → Whole (record { made = r; out = out })
+    unfolding pick
+    refused_query {r} eg e = refused Malformed r e (past ∙ rw (no_hash fits topic key eg))
 
-        pub asked : {w : Criteria} {r : QueryOutcome} → not g.well ≡ false → w ≡ criteria_of l g.hash first last → r ≡ reported (search k l w most) out → Whole r
-        unfolding queried query_walk pick
-        asked c ew er = er ∙ rw (← es, a, ← eh, b, ← em, ← well_formed topic key first last most (length out) ef eg, c, ew, eg.hashed (not-false g.well c))
+    -- the index that was opened is of these bytes and sizes
+    pub asked : {k' hash : ℕ} {l' : List ℕ} {w : Criteria} {r : QueryOutcome} → l' ≡ l → k' ≡ k → Some hash ≡ hash_if fits topic key
+        → w ≡ criteria_of l' hash first last → r ≡ reported (search k' l' w most) out → Whole r
+    unfolding queried pick
+    asked el ek eg ew er = let g = some_hash fits topic key eg in er ∙ rw (past, g.0, ew, g.1, el, ek)
 
 -- what the walk may count on
-pub accepted : (k n : ℕ) (l topic key : List ℕ) (first last most places : ℕ) {s h fits : Bool} {g : Hashed} {w : Criteria}
-    → s ≡ sizes_ok k n (length l) → s ≡ true → h ≡ header_sound n l → h ≡ true
-    → fits ≡ query_fits (length topic) (length key) first last most places → HashedIf fits topic key g → not g.well ≡ false
-    → w ≡ criteria_of l g.hash first last
-    → (0 < k) × (k ≤ 5000000) × (item_at k (used_count l) ≤ length l) × (w.base ≤ 281474976710655) × (most ≤ places) × (used_count l ≤ 20000000)
-unfolding query_fits criteria_of
-accepted k n l topic key first last most places {s} {h} {fits} {g} {w} es a eh b ef eg c ew =
-    let f = sizes_facts k n (length l) (sym es ∙ a) in
-    let d = header_facts n l (sym eh ∙ b) in
-    let o = both fits (valid topic && valid key) (sym eg.is ∙ not-false g.well c) in
+pub base_within : (l : List ℕ) (hash first last : ℕ) {w : Criteria} → w ≡ criteria_of l hash first last → first_time l ≤ 281474976710655 → w.base ≤ 281474976710655
+unfolding criteria_of
+base_within l hash first last e h = rw e h
+
+pub enough_places : (topic key : List ℕ) (first last most places : ℕ) {fits : Bool} {hash : ℕ}
+    → fits ≡ query_fits (length topic) (length key) first last most places → Some hash ≡ hash_if fits topic key → most ≤ places
+unfolding query_fits
+enough_places topic key first last most places {fits} ef eg =
+    let o = both fits (valid topic && valid key) (some_hash fits topic key eg).0 in
     let p = both ((text_fits 127 (length topic) && text_fits 32767 (length key)) && (leb first last && time_ok last)) (leb most places) (sym ef ∙ o.0) in
-    (f.0.some, f.0.most, (let x = f.1 in let y = d.used in omega arith), rw ew d.first_time_is, leb-true most places p.1, omega (arith, f.0.few, d.used))
+    leb-true most places p.1

@@ -10,7 +10,6 @@ use lib.Dec.{ltb}
 use lib.ListN.{length, take, drop, set, length-set, take-append-drop}
 use lib.Seq.{length-take-le, take-suc-set, drop-set-lt, drop-drop}
 use borrow.Author.Tests.{ltb-true}
-use Rattle.codec.specs.Bytes.{big, field}
 use Rattle.codec.specs.Choice.{pick}
 use Rattle.java_hash.specs.Hash.{slot_of}
 use Rattle.units.specs.declared.Answer.{Answer}
@@ -20,7 +19,7 @@ use Rattle.index_query.specs.declared.Criteria.{Criteria}
 use Rattle.index_query.specs.declared.Queried.{Queried}
 use Rattle.index_query.specs.declared.Verdict.{Verdict}
 use Rattle.index_query.specs.declared.Verdict.TheVariants.{Damaged, Match, Early, Pass}
-use Rattle.index_file.specs.Index.{used_count, slot_at, item_at, item_of}
+use Rattle.index_file.specs.Index.{used_count, slot_value, item_of}
 use Rattle.index_query.specs.Walk.{Walked, item_time, hit, damaged, matched, ends, after, visit, walk, search}
 use Rattle.index_query.specs.Query.{QueryOutcome, reported}
 use Rattle.index_query.specs.Inner.{verdict_of}
@@ -58,31 +57,26 @@ joined_after n ps ms ps' w h =
 
 -- what is found so far and the walk from here are the whole
 pub record Going (index : List ℕ) (k : ℕ) (q : Criteria) (wanted : ℕ) (out₀ out : List ℕ) (before num found read : ℕ) : Type 0 where
-  pub room : item_at k before ≤ length index
-  pub few : before ≤ 20000000
   pub places : wanted ≤ length out
   pub some : 0 < before
   pub within : found ≤ wanted
-  pub count : read + before ≤ length index
+  pub count : read + before ≤ used_count index
   pub long : length out ≡ length out₀
   pub rest : drop found out ≡ drop found out₀
   pub whole : joined read (take found out) (walk (item_of k index) (visit q) before (wanted - found) before num) ≡ search k index q wanted
 
 pub begins : (index : List ℕ) (k : ℕ) (q : Criteria) (wanted : ℕ) (out : List ℕ) (before num : ℕ)
-    → before ≡ used_count index → {at : ℕ} → at ≡ slot_at (slot_of k q.hash) → num ≡ field big 4 at index
-    → item_at k (used_count index) ≤ length index → used_count index ≤ 20000000 → wanted ≤ length out → Going index k q wanted out out before num 0 0
+    → before ≡ used_count index → num ≡ slot_value index (slot_of k q.hash) → wanted ≤ length out → Going index k q wanted out out before num 0 0
 unfolding search joined
-begins index k q wanted out before num hu hs hn room few places =
+begins index k q wanted out before num hu hn places =
     record {
-      room = omega arith;
-      few = omega arith;
       places = places;
       some = omega arith;
       within = omega arith;
       count = omega arith;
       long = refl;
       rest = refl;
-      whole = rw (sub-zero wanted, zero-add, hu, hn, hs);
+      whole = rw (sub-zero wanted, zero-add, hu, hn);
     }
 
 -- a way out: the walk from here finds nothing more, and reads n
@@ -148,8 +142,6 @@ module _ (index : List ℕ) (k : ℕ) (q : Criteria) (wanted : ℕ) (out₀ out 
       unfolding rest_of next act
       again_pass h =
           record {
-            room = omega arith;
-            few = omega arith;
             places = g.places;
             some = omega arith;
             within = g.within;
@@ -165,8 +157,6 @@ module _ (index : List ℕ) (k : ℕ) (q : Criteria) (wanted : ℕ) (out₀ out 
       unfolding rest_of next act
       again_match h =
           record {
-            room = omega arith;
-            few = omega arith;
             places = simp length-set g.places;
             some = omega arith;
             within = omega arith;

@@ -2,13 +2,12 @@
 #![tactic(auto)]
 
 ghost use Rattle.std.specs.Prelude.{◌≡◌, ◌+◌, ◌<◌, ◌≤◌, length};
-ghost use Rattle.index_file.specs.Index.{used_count, item_at, item_of};
 ghost use Rattle.index_query.specs.Walk.{criteria_of, search};
-ghost use Rattle.index_query.specs.Query.{wanted_of, query_fits, reported, queried};
-ghost use Rattle.index_query.specs.Inner.{verdict_of, HashedIf};
+ghost use Rattle.index_query.specs.Query.{wanted_of, text_fits, query_fits, reported, queried};
+ghost use Rattle.index_query.specs.Inner.{verdict_of, hash_if};
 
-use index_file::{IndexSizes, Item};
-use units::{Answer, LogPosition};
+use index_file::{Header, Index, IndexSizes, Item};
+use units::Answer;
 
 // What a query looks for, and the header's first time, on which item times rest.
 #[derive(Clone, Copy)]
@@ -28,13 +27,6 @@ enum Verdict {
     Pass,
 }
 
-// Whether a query is well-formed, and its key's index hash.
-#[derive(Clone, Copy)]
-struct Hashed {
-    well: bool,
-    hash: u32,
-}
-
 // How a query ends: the positions written and the items read.
 #[derive(Clone, Copy)]
 pub struct Queried {
@@ -43,26 +35,15 @@ pub struct Queried {
     pub read: u64,
 }
 
-const FIRST_TIME: usize = 0;
-
-const TIME_MAX: u64 = 281474976710655;
-
-const POSITION_MAX: u64 = 1099511627776;
-
-fn read_item(index: &[u8], slot_count: u64, u: u32) -> Item
-    requires { (slot_count ≤ 5000000) × (item_at slot_count u + 20 ≤ length index.now) }
-    ensures { result ≡ item_of slot_count index.now u }
-{
-    let at = index_file::item_place(slot_count, u);
-    let hash = codec::get_u32(index, at);
-    let position = LogPosition(codec::get_u64(index, at + 4));
-    let seconds = codec::get_u32(index, at + 12);
-    let previous = codec::get_u32(index, at + 16);
-    Item {
-        hash,
-        position,
-        seconds,
-        previous,
+impl Queried {
+    fn new(answer: Answer, found: usize, read: u64) -> Queried
+        ensures { result ≡ record { answer = answer; found = found; read = read } }
+    {
+        Queried {
+            answer,
+            found: found as u64,
+            read,
+        }
     }
 }
 
@@ -72,12 +53,10 @@ fn judge(criteria: Criteria, item: Item, number: u32) -> Verdict
     requires { (criteria.base ≤ 281474976710655) × (number < 2147483648) }
     ensures { result ≡ verdict_of criteria item }
 {
-    if (2147483648 <= codec::larger(item.seconds as u64, number as u64))
-        | !(item.position.0 <= POSITION_MAX)
-    {
+    if (Item::MAX_SECONDS < item.seconds.max(number)) | (Header::MAX_POSITION < item.position.0) {
         return Verdict::Damaged;
     }
-    let time = criteria.base + 1000 * (item.seconds as u64);
+    let time = criteria.base + 1000 * u64::from(item.seconds);
     if (item.hash == criteria.hash) & ((criteria.begin <= time) & (time <= criteria.end)) {
         return Verdict::Match;
     }
@@ -88,59 +67,46 @@ fn judge(criteria: Criteria, item: Item, number: u32) -> Verdict
     }
 }
 
-fn ended(answer: Answer, found: usize, read: u64) -> Queried
-    ensures { result ≡ record { answer = answer; found = found; read = read } }
-{
-    Queried {
-        answer,
-        found: found as u64,
-        read,
-    }
-}
-
 // The criteria of a query over an index.
-fn criteria_for(index: &[u8], hash: u32, begin: u64, end: u64) -> Criteria
-    requires { 40 ≤ length index.now }
-    ensures { result ≡ criteria_of index.now hash begin end }
+fn criteria_for(index: &Index, hash: u32, begin: u64, end: u64) -> Criteria
+    ensures { result ≡ criteria_of index.now.bytes.now hash begin end }
 {
-    let base = codec::get_u64(index, FIRST_TIME);
     Criteria {
         hash,
         begin,
         end,
-        base,
+        base: index.first_time(),
     }
 }
 
 // The walk from the slot of a hash, newest item first; the positions of matches go to the output's front.
-fn walk_chain(index: &[u8], k: u64, criteria: Criteria, wanted: usize, out: &mut [u64]) -> Queried
-    requires { (0 < k) × (k ≤ 5000000) × (item_at k (used_count index.now) ≤ length index.now) × (criteria.base ≤ 281474976710655) × (wanted ≤ length out.old) × (used_count index.now ≤ 20000000) }
-    ensures { record { made = result; out = out.new } ≡ reported (search k index.now criteria wanted) out.old }
+fn walk_chain(index: &Index, criteria: Criteria, wanted: usize, out: &mut [u64]) -> Queried
+    requires { (criteria.base ≤ 281474976710655) × (wanted ≤ length out.old) }
+    ensures { record { made = result; out = out.new } ≡ reported (search index.now.slots.count index.now.bytes.now criteria wanted) out.old }
 {
-    let mut before = index_file::used_count(index);
-    let mut number = codec::get_u32(index, index_file::slot_place(criteria.hash, k));
+    let mut before = index.used_count();
+    let mut number = index.slot(criteria.hash);
     let mut found: usize = 0;
     let mut read: u64 = 0;
     loop {
         if found == wanted {
-            break ended(Answer::Done, found, read);
+            break Queried::new(Answer::Done, found, read);
         }
         if number == 0 {
-            break ended(Answer::Done, found, read);
+            break Queried::new(Answer::Done, found, read);
         }
         if before <= number {
-            break ended(Answer::ChainBroken, found, read);
+            break Queried::new(Answer::ChainBroken, found, read);
         }
-        let item = read_item(index, k, number);
+        let item = Item::read(index, number);
         read += 1;
-        let verdict = judge(criteria, item, number);
-        match verdict {
-            Verdict::Damaged => break ended(Answer::ChainBroken, found, read),
+        match judge(criteria, item, number) {
+            Verdict::Damaged => break Queried::new(Answer::ChainBroken, found, read),
             Verdict::Match => {
                 out[found] = item.position.0;
                 found += 1;
             }
-            Verdict::Early => break ended(Answer::Done, found, read),
+            Verdict::Early => break Queried::new(Answer::Done, found, read),
             Verdict::Pass => {}
         }
         before = number;
@@ -155,6 +121,12 @@ fn wanted_of(wanted: u64) -> u64
     if wanted == 0 { 32 } else { wanted }
 }
 
+fn text_fits(most: usize, len: usize) -> bool
+    ensures { result ≡ text_fits most len }
+{
+    (1..=most).contains(&len)
+}
+
 // Whether topic and key have a byte and are not too long, the times are in limits and ordered, and the output has the places.
 fn query_fits(
     topic: usize,
@@ -166,33 +138,24 @@ fn query_fits(
 ) -> bool
     ensures { result ≡ query_fits topic key first_time last_time wanted places }
 {
-    let texts = ((1 <= topic) & (topic <= 127)) & ((1 <= key) & (key <= 32767));
-    let times = (first_time <= last_time) & (last_time <= TIME_MAX);
+    let texts = text_fits(127, topic) & text_fits(32767, key);
+    let times = (first_time <= last_time) & (last_time <= Header::MAX_TIME);
     texts & times & (wanted <= places as u64)
 }
 
 // The index hash of a query's key, if the query is well-formed: topic and key are UTF-8, and the rest is as it should be.
 // They are lent anew where they are judged: handed on as they came, they would be stored in every call, plain or not.
-fn hash_if(fits: bool, topic: &[u8], key: &[u8]) -> Hashed
-    ensures { HashedIf fits topic.now key.now result }
+fn hash_if(fits: bool, topic: &[u8], key: &[u8]) -> Option<u32>
+    ensures { result ≡ hash_if fits topic.now key.now }
 {
     if !fits {
-        return Hashed {
-            well: false,
-            hash: 0,
-        };
+        return None;
     }
     let plain = utf8::plain(topic) & utf8::plain(key);
-    if !plain {
-        if !(utf8::valid(&topic[..]) & utf8::valid(&key[..])) {
-            return Hashed {
-                well: false,
-                hash: 0,
-            };
-        }
+    if !plain && !(utf8::valid(&topic[..]) & utf8::valid(&key[..])) {
+        return None;
     }
-    let hash = java_hash::index_hash(topic, key, plain);
-    Hashed { well: true, hash }
+    Some(java_hash::index_hash(topic, key, plain))
 }
 
 // The newest items with the key's hash and a recorded time in the range: their positions go to the output's front.
@@ -219,15 +182,13 @@ pub fn query(
         out.len(),
     );
     let hashed = hash_if(fits, topic, key);
-    if !index_file::sizes_ok(sizes, index.len()) {
-        return ended(Answer::BadSizes, 0, 0);
-    }
-    if !index_file::header_sound(index, sizes.item_count) {
-        return ended(Answer::BadHeader, 0, 0);
-    }
-    if !hashed.well {
-        return ended(Answer::Malformed, 0, 0);
-    }
-    let criteria = criteria_for(index, hashed.hash, first_time, last_time);
-    walk_chain(index, sizes.slot_count, criteria, most as usize, out)
+    let index = match Index::open(index, sizes) {
+        Ok(index) => index,
+        Err(refusal) => return Queried::new(refusal, 0, 0),
+    };
+    let Some(hash) = hashed else {
+        return Queried::new(Answer::Malformed, 0, 0);
+    };
+    let criteria = criteria_for(&index, hash, first_time, last_time);
+    walk_chain(&index, criteria, most as usize, out)
 }

@@ -1,2 +1,2 @@
 pub mod SizesMade
-pub mod CountsLent
+pub mod Counts

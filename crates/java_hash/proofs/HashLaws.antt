@@ -1,10 +1,17 @@
 -- Laws of the hash: joined strings, one byte more, eight bytes more, topic and key. Assumes nothing.
-use Rattle.std.proofs.Common.{◌≡◌, ℕ, suc, ◌+◌, ◌-◌, ◌*◌, ◌/◌, ◌%◌, ◌^◌, ◌<◌, ◌≤◌, Bool, true, false, eqb, ltb, List, [], ◌∷◌, ◌++◌, length, get_or, take, drop, sym, refl, ap, ◌∙◌, add-zero, mod-lt, mul_assoc, pow-suc, mul-add, mul_left_comm, add-one, arith, length-drop, take-append-drop, take_all, take-suc, take-add, ltb-false, ltb-true, le-ltb, lt-ltb, ne_eqb}
+use Rattle.std.proofs.Common.{⊎_elim, ◌≡◌, ℕ, zero, suc, ◌+◌, ◌-◌, ◌*◌, ◌/◌, ◌%◌, ◌^◌, ◌<◌, ◌≤◌, Bool, true, false, eqb, ltb, List, [], ◌∷◌, ◌++◌, length, get_or, take, drop, sym, refl, ap, ◌∙◌, add-zero, mod-lt, mul_assoc, pow-suc, mul-add, mul_left_comm, add-one, mul_comm, arith, take-append-drop, take-add, ltb-false, ltb-true, le-ltb, lt-ltb, ne_eqb}
 use native.Mathlib.Nat.{mod-add-div, add-mul-mod_self_left, mod-add-mod, add-mod-mod}
 use borrow.Author.Tests.{eqb-false}
+use Rattle.std.proofs.lemmas.Int.{to_z_pos, of_z-to_z}
+use Rattle.std.proofs.lemmas.Bool.{cases_lt, cases_eq}
+use lib.IntN.{ℤ, pos, negsuc, neg_ℤ, nat_abs}
+use mir.Syntax.{w32, w64}
+use mir.Val.{to_z, of_z, SFits}
+use Rattle.std.specs.Prelude.{Option, Some, None, unwrap_or}
+use Rattle.std.specs.Option.{SomeIff}
+use Rattle.std.specs.List.{fold}
+use Rattle.std.specs.Simd.{first_chunks}
 use Rattle.codec.specs.Choice.{pick}
-use Rattle.codec.specs.Bytes.{part}
-use Rattle.codec.proofs.Parts.{length_part, part_add, part_cons, part_none}
 use Rattle.utf8.specs.Utf8.{units}
 use Rattle.java_hash.specs.Hash.{hash_from, hash_of, plus, minus, signed, carried, absolute, tag_code, topic_hash, key_hash, index_hash, slot_of}
 use Rattle.java_hash.specs.Claims.{KeyHash, KeyHashSmall, IndexHashSmall, SlotWithin}
@@ -16,13 +23,6 @@ unfolding hash_from
 hash_append h [] b = refl
 hash_append h (x ∷ a) b = hash_append ((31 * h + x) % 4294967296) a b
 
--- a string's first bytes, then the others, lent as a part
-pub hash_parts : (start i h r : ℕ) (s : List ℕ) → h ≡ hash_from start (take i s) → r ≡ hash_from h (take (length s - i) (drop i s)) → r ≡ hash_from start s
-hash_parts start i h r s e f =
-    let all : take (length s - i) (drop i s) ≡ drop i s = take_all (length s - i) (drop i s) (rw length-drop (omega arith)) in
-    let g : r ≡ hash_from (hash_from start (take i s)) (drop i s) = rw (all, e) at f in
-    g ∙ sym (hash_append start (take i s) (drop i s)) ∙ ap (hash_from start) (take-append-drop i s)
-
 -- topic and `#` first, then the key
 pub key_hash_is : KeyHash
 unfolding key_hash topic_hash index_hash hash_from
@@ -30,9 +30,9 @@ key_hash_is topic key =
     ap (λ (h : ℕ). absolute (signed h))
     (ap (λ (h : ℕ). hash_from h (units key)) (hash_append 0 (units topic) (35 ∷ [])) ∙ sym (hash_append 0 (units topic) (35 ∷ units key)))
 
-pub topic_step : (h r : ℕ) (topic : List ℕ) → h ≡ hash_from 0 (units topic) → r ≡ hash_from h (35 ∷ []) → r ≡ topic_hash topic
+pub topic_step : (h r : ℕ) (topic : List ℕ) {mark : ℕ} → h ≡ hash_from 0 (units topic) → mark ≡ 35 → r ≡ hash_from h (mark ∷ []) → r ≡ topic_hash topic
 unfolding topic_hash
-topic_step h r topic e f = f ∙ rw e (sym (hash_append 0 (units topic) (35 ∷ [])))
+topic_step h r topic e m f = f ∙ rw (e, m) (sym (hash_append 0 (units topic) (35 ∷ [])))
 
 -- the hash of the key's units, from its topic's hash; and of the tags'
 pub key_step : (prefix h r : ℕ) (key : List ℕ) → h ≡ hash_from prefix (units key) → r ≡ absolute (signed h) → r ≡ key_hash prefix key
@@ -52,10 +52,17 @@ absorb m c x y =
     = omega (arith, ap (λ (n : ℕ). c * n) (mod-add-div x m), mul-add c (x % m) (m * (x / m)), mul_left_comm c m (x / m)) in
     sym (ap (λ (n : ℕ). n % m) e ∙ add-mul-mod_self_left (c * (x % m) + y) m (c * (x / m)))
 
--- a factor, then another
-pub times_more : (a b h : ℕ) {x r : ℕ} → x ≡ a * h % 4294967296 → r ≡ b * x % 4294967296 → r ≡ b * a * h % 4294967296
-times_more a b h e f =
-    f ∙ ap (λ (n : ℕ). b * n % 4294967296) e ∙ simp add-zero at (absorb 4294967296 b (a * h) 0) ∙ ap (λ (n : ℕ). n % 4294967296) (sym (mul_assoc b a h))
+-- times 31 once more
+pub times_more : (n h : ℕ) {x r : ℕ} → x ≡ 31 ^ n * h % 4294967296 → r ≡ 31 * x % 4294967296 → r ≡ 31 ^ (n + 1) * h % 4294967296
+times_more n h e f =
+    let more : 31 * (31 ^ n * h) ≡ 31 ^ (n + 1) * h = sym (mul_assoc 31 (31 ^ n) h) ∙ rw (add-one, pow-suc, mul_comm 31 (31 ^ n)) in
+    f ∙ ap (λ (x : ℕ). 31 * x % 4294967296) e ∙ simp add-zero at (absorb 4294967296 31 (31 ^ n * h) 0) ∙ ap (λ (x : ℕ). x % 4294967296) more
+
+pub times_none : (h : ℕ) → h < 4294967296 → h ≡ 31 ^ 0 * h % 4294967296
+times_none h k = omega arith
+
+pub times_all : (i n h y : ℕ) {x : ℕ} → i ≡ n → x ≡ 31 ^ i * h % 4294967296 → (x + y) % 4294967296 ≡ (31 ^ n * h + y) % 4294967296
+times_all i n h y e f = rw (f, e) (mod-add-mod (31 ^ n * h) 4294967296 y)
 
 pub one_more : (h u : ℕ) {b r : ℕ} → b ≡ 31 * h % 4294967296 → r ≡ (b + u) % 4294967296 → r ≡ hash_from h (u ∷ [])
 unfolding hash_from
@@ -78,62 +85,120 @@ shares h (u ∷ us) k =
     from (31 * h + u) ∙ ap (λ (x : ℕ). x % 4294967296) split
     ∙ sym (ap (λ (x : ℕ). (31 ^ suc (length us) * h + x) % 4294967296) (from (0 + u)) ∙ add-mod-mod (31 ^ suc (length us) * h) (31 ^ length us * (0 + u) + hash_from 0 us) 4294967296)
 
--- m bytes more, by their own hash
-pub onward : (s : List ℕ) (m i : ℕ) {h b c r : ℕ} → i + m ≤ length s → h < 4294967296 → b ≡ 31 ^ m * h % 4294967296 → c ≡ hash_from 0 (part m i s) → r ≡ (b + c) % 4294967296 → r ≡ hash_from h (part m i s)
-onward s m i {h} k l e f g =
-    g ∙ rw (e, f) (mod-add-mod (31 ^ m * h) 4294967296 (hash_from 0 (part m i s)))
-    ∙ sym (rw (length_part m i s k) at (shares h (part m i s) l))
+-- units more, by their own hash
+pub onward : (h : ℕ) (us : List ℕ) (n : ℕ) {c r : ℕ} → h < 4294967296 → length us ≡ n → c ≡ hash_from 0 us → r ≡ (31 ^ n * h + c) % 4294967296 → r ≡ hash_from h us
+onward h us n k l e f = f ∙ rw (e, ← l) (sym (shares h us k))
 
--- n bytes, then m more
-pub halves : (s : List ℕ) (n m i : ℕ) {a b c r : ℕ} → i + (n + m) ≤ length s → a ≡ hash_from 0 (part n i s) → b ≡ 31 ^ m * a % 4294967296 → c ≡ hash_from 0 (part m (i + n) s) → r ≡ (b + c) % 4294967296 → r ≡ hash_from 0 (part (n + m) i s)
-halves s n m i k d e f g =
-    onward s m (i + n) (omega arith) (rw d (hash_lt 0 (part n i s) (omega arith))) e f g ∙ ap (λ (h : ℕ). hash_from h (part m (i + n) s)) d
-    ∙ sym (rw (part_add n m i s) (hash_append 0 (part n i s) (part m (i + n) s)))
-
-pub single : (s : List ℕ) (i : ℕ) {x : ℕ} → i < length s → x ≡ get_or s i 0 → x < 256 → x ≡ hash_from 0 (part 1 i s)
+pub both_units : (s : List ℕ) {x y r : ℕ} → length s ≡ 2 → get_or s 0 0 < 256 → x ≡ get_or s 0 0 → y ≡ get_or s 1 0 → r ≡ (31 ^ 1 * x + y) % 4294967296 → r ≡ hash_from 0 s
 unfolding hash_from
-single s i k e l = rw (part_cons 0 i s k, part_none (i + 1) s) (omega arith)
+both_units [] l k p q e = absurd (omega arith)
+both_units (a ∷ []) l k p q e = absurd (omega arith)
+both_units (a ∷ b ∷ []) l k p q e = omega arith
+both_units (a ∷ b ∷ c ∷ s) l k p q e = absurd (omega arith)
 
-module _ (start : ℕ) (s : List ℕ) where
-  -- the turns of the loops over bytes
-  pub turn1 : (i h u r : ℕ) → i < length s → h ≡ hash_from start (take i s) → u ≡ get_or s i 0 → r ≡ hash_from h (u ∷ []) → r ≡ hash_from start (take (i + 1) s)
-  turn1 i h u r k e f g = g ∙ rw (e, f, add-one, take-suc s i 0 k) (sym (hash_append start (take i s) (get_or s i 0 ∷ [])))
+-- the front's hash, then the back's
+pub halves : (s : List ℕ) (n m : ℕ) {a b r : ℕ} {front back : List ℕ} → front ≡ take n s → back ≡ drop n s → length back ≡ m → a ≡ hash_from 0 front → b ≡ hash_from 0 back
+    → r ≡ (31 ^ m * a + b) % 4294967296 → r ≡ hash_from 0 s
+halves s n m {back = back} p q l d e f =
+    onward _ back m (rw d (hash_lt 0 _ (omega arith))) l e f ∙ rw (d, p, q) (sym (hash_append 0 (take n s) (drop n s))) ∙ ap (hash_from 0) (take-append-drop n s)
 
-  pub turn8 : (i h r : ℕ) → h ≡ hash_from start (take i s) → r ≡ hash_from h (part 8 i s) → r ≡ hash_from start (take (i + 8) s)
-  unfolding part
-  turn8 i h r e g = g ∙ rw (e, take-add i 8 s) (sym (hash_append start (take i s) (take 8 (drop i s))))
+-- ---- unit by unit, and eight at once
 
-  pub turn0 : start ≡ hash_from start (take 0 s)
-  unfolding hash_from
-  turn0 = refl
+pub fold_units : (h : ℕ) (s : List ℕ) → fold (λ h u. hash_from h (u ∷ [])) h s ≡ hash_from h s
+unfolding hash_from
+fold_units h [] = refl
+fold_units h (u ∷ s) = fold_units ((31 * h + u) % 4294967296) s
 
-  pub turned : (i h : ℕ) → length s ≤ i → h ≡ hash_from start (take i s) → h ≡ hash_from start s
-  turned i h k e = e ∙ rw (take_all i s k)
+pub fold_eights : (k h : ℕ) (s : List ℕ) → fold hash_from h (first_chunks 8 k s) ≡ hash_from h (take (8 * k) s)
+unfolding hash_from
+fold_eights zero h s = refl
+fold_eights (suc k) h s =
+    let e : 8 * suc k ≡ 8 + 8 * k = omega arith in
+    fold_eights k (hash_from h (take 8 s)) (drop 8 s) ∙ rw (e, take-add 8 (8 * k) s) (sym (hash_append h (take 8 s) (take (8 * k) (drop 8 s))))
+
+-- the eights, then the rest
+pub eights_rest : (start : ℕ) (s : List ℕ) {h r : ℕ} {eights : List (List ℕ)} {rest : List ℕ} → eights ≡ first_chunks 8 (length s / 8) s → rest ≡ drop (length s / 8 * 8) s
+    → h ≡ fold hash_from start eights → r ≡ fold (λ h u. hash_from h (u ∷ [])) h rest → r ≡ hash_from start s
+eights_rest start s {h} {rest = rest} p q e f =
+    let n : length s / 8 * 8 ≡ 8 * (length s / 8) = omega arith in
+    let g : h ≡ hash_from start (take (8 * (length s / 8)) s) = e ∙ rw p (fold_eights (length s / 8) start s) in
+    f ∙ fold_units h rest ∙ rw (g, q, n) (sym (hash_append start (take (8 * (length s / 8)) s) (drop (8 * (length s / 8)) s))) ∙ ap (hash_from start) (take-append-drop (8 * (length s / 8)) s)
 
 -- ---- the signed number
 
-module _ (h : ℕ) where
-  pub carry_plus : h < 2147483648 → h ≡ carried (signed h)
+-- the bits h read as a signed number: itself, or so far below 0
+module _ (h : ℕ) (k : h < 4294967296) where
+  read_plus : h < 2147483648 → to_z w32 h ≡ pos h
+  read_plus l = to_z_pos w32 h l
+
+  read_minus : 2147483648 ≤ h → to_z w32 h ≡ negsuc (4294967295 - h)
+  read_minus l = rw (le-ltb h 2147483648 l) (ap (λ (n : ℕ). negsuc n) (omega arith))
+
+  -- read again it is the same
+  again : {z : ℤ} → z ≡ to_z w32 h → to_z w32 (of_z w32 z) ≡ to_z w32 h
+  again e = rw (e, of_z-to_z w32 h k)
+
+  carry_of : {y : ℤ} {r : ℕ} → y ≡ to_z w32 h → r ≡ of_z w64 (to_z w64 (of_z w64 y)) → r ≡ carried (signed h)
   unfolding carried signed pick
-  carry_plus l = rw (lt-ltb h 2147483648 l)
+  carry_of {y} {r} e f = ⊎_elim plus_so minus_so (cases_lt h 2147483648)
+    where
+      plus_so : h < 2147483648 → r ≡ carried (signed h)
+      plus_so l = f ∙ rw (e, read_plus l, of_z-to_z w64 h (omega arith), lt-ltb h 2147483648 l)
 
-  pub carry_minus : 2147483648 ≤ h → h < 4294967296 → 18446744069414584320 + h ≡ carried (signed h)
-  unfolding carried signed pick
-  carry_minus l k = rw (le-ltb h 2147483648 l) (omega arith)
+      minus_so : 2147483648 ≤ h → r ≡ carried (signed h)
+      minus_so l = f ∙ rw (e, read_minus l, of_z-to_z w64 (18446744073709551616 - suc (4294967295 - h)) (omega arith), le-ltb h 2147483648 l) (omega arith)
 
-  pub absolute_plus : h < 2147483648 → h ≡ absolute (signed h)
+  pub carry_is : {z y : ℤ} {r : ℕ} → z ≡ to_z w32 h → y ≡ to_z w32 (of_z w32 z) → r ≡ of_z w64 (to_z w64 (of_z w64 y)) → r ≡ carried (signed h)
+  carry_is e f g = carry_of (f ∙ again e) g
+
+-- what a checked call gives where it can, and that it gives nothing where it cannot
+given : (o : Option ℤ) (v : ℤ) {P : Type 0} → SomeIff o P v → P → unwrap_or o (pos 0) ≡ v
+given None v s p = absurd (s p)
+given (Some x) v s p = s.1
+
+withheld : (o : Option ℤ) (v : ℤ) {P : Type 0} → SomeIff o P v → ¬ P → unwrap_or o (pos 0) ≡ pos 0
+withheld None v s n = refl
+withheld (Some x) v s n = absurd (n s.0)
+
+opposite_fits : (n : ℕ) → n < 2147483648 → SFits w32 (neg_ℤ (pos n))
+opposite_fits zero l = record { sfits = omega arith }
+opposite_fits (suc n) l = record { sfits = omega arith }
+
+module _ (h : ℕ) (k : h < 4294967296) (o : Option ℤ) where
+  abbrev Checked : ℤ → Type 0
+  Checked z = SomeIff o (SFits w32 (neg_ℤ z)) (pos (nat_abs z))
+
+  found_plus : h < 2147483648 → Checked (to_z w32 h) → unwrap_or o (pos 0) ≡ pos h
+  found_plus l s = given o (pos h) (rw (read_plus h k l) at s) (opposite_fits h l)
+
+  found_least : h ≡ 2147483648 → Checked (to_z w32 h) → unwrap_or o (pos 0) ≡ pos 0
+  found_least e s = withheld o _ (rw (read_minus h k (omega arith)) at s) (λ q. let m = q.sfits in omega arith)
+
+  found_minus : 2147483648 < h → Checked (to_z w32 h) → unwrap_or o (pos 0) ≡ pos (4294967296 - h)
+  found_minus l s =
+      given o _ (rw (read_minus h k (omega arith)) at s) (record { sfits = omega arith })
+      ∙ ap (λ (n : ℕ). pos n) (omega arith)
+
+  absolute_of : {u : ℤ} {r : ℕ} → Checked (to_z w32 h) → u ≡ unwrap_or o (pos 0) → r ≡ of_z w32 (to_z w32 (of_z w32 u)) → r ≡ absolute (signed h)
   unfolding absolute signed pick
-  absolute_plus l = rw (lt-ltb h 2147483648 l)
+  absolute_of {u} {r} s e f = ⊎_elim plus_so (λ m. ⊎_elim least_so (λ n. minus_so (omega arith)) (cases_eq h 2147483648)) (cases_lt h 2147483648)
+    where
+      read : (n : ℕ) → n < 2147483648 → unwrap_or o (pos 0) ≡ pos n → r ≡ n
+      read n l p = f ∙ rw (e, p) (of_z-to_z w32 n (omega arith))
 
-  pub absolute_least : h ≡ 2147483648 → 0 ≡ absolute (signed h)
-  unfolding absolute signed pick
-  absolute_least e = rw e
+      plus_so : h < 2147483648 → r ≡ absolute (signed h)
+      plus_so l = read h l (found_plus l s) ∙ rw (lt-ltb h 2147483648 l)
 
-  pub absolute_minus : 2147483648 < h → h < 4294967296 → 4294967296 - h ≡ absolute (signed h)
-  unfolding absolute signed pick
-  absolute_minus l k =
-      let n : eqb (4294967296 - h) 2147483648 ≡ false = ne_eqb (4294967296 - h) 2147483648 (λ e. omega arith) in
-      rw (le-ltb h 2147483648 (omega arith), n)
+      least_so : h ≡ 2147483648 → r ≡ absolute (signed h)
+      least_so m = read 0 (omega arith) (found_least m s) ∙ rw m
+
+      minus_so : 2147483648 < h → r ≡ absolute (signed h)
+      minus_so l =
+          let n : eqb (4294967296 - h) 2147483648 ≡ false = ne_eqb (4294967296 - h) 2147483648 (λ q. omega arith) in
+          read (4294967296 - h) (omega arith) (found_minus l s) ∙ rw (le-ltb h 2147483648 (omega arith), n)
+
+  pub absolute_is : {z u : ℤ} {r : ℕ} → z ≡ to_z w32 h → Checked (to_z w32 (of_z w32 z)) → u ≡ unwrap_or o (pos 0) → r ≡ of_z w32 (to_z w32 (of_z w32 u)) → r ≡ absolute (signed h)
+  absolute_is e s f g = absolute_of (rw (again h k e) at s) f g
 
 absolute_lt : (h : ℕ) → h < 4294967296 → absolute (signed h) < 2147483648
 unfolding absolute signed pick

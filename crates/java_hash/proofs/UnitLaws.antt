@@ -1,9 +1,9 @@
 -- The hash over the units of a text: one character more, a text of bytes below 128, joined texts. Assumes nothing.
-use Rattle.std.proofs.Common.{◌≡◌, ℕ, ◌+◌, ◌-◌, ◌/◌, ◌%◌, ◌<◌, ◌≤◌, Bool, true, List, [], ◌∷◌, length, drop, sym, ap, ◌∙◌, arith, length-drop, le-ltb, lt-ltb}
+use Rattle.std.proofs.Common.{Some, None, refl, ◌≡◌, ℕ, ◌+◌, ◌-◌, ◌/◌, ◌%◌, ◌<◌, ◌≤◌, Bool, true, List, [], ◌∷◌, length, drop, sym, ap, ◌∙◌, arith, length-drop, le-ltb, lt-ltb}
 use Rattle.codec.specs.Choice.{pick}
 use Rattle.utf8.specs.declared.Char.{Char}
 use Rattle.utf8.specs.Utf8.{front, Decoded, units_of, units, valid, Known, plain}
-use Rattle.utf8.proofs.Texts.{valid_turn, decoded_size, whole, units_turn, units_end, units_done, units_ahead, joined_units}
+use Rattle.utf8.proofs.Texts.{valid_turn, decoded_size, decoded_some, whole, units_turn, units_end, units_done, units_ahead, joined_units}
 use Rattle.utf8.proofs.Plains.{plain_units}
 use Rattle.java_hash.specs.Hash.{hash_from}
 use Rattle.java_hash.specs.Claims.{HashJoined}
@@ -20,39 +20,37 @@ module _ (h u : ℕ) where
   unfolding hash_from units_of pick
   two_units k e f = rw (le-ltb u 65536 k, ← e) f
 
--- ---- the turns of the loop: what is left from here gives the whole
-
-module _ (s : List ℕ) (i h : ℕ) where
-  pub hash_turn : {r : ℕ} {c : Char} → i < length s → Decoded s i c → (c.size ≡ 0 → ⊥) → r ≡ hash_from h (units_of c.code) → hash_from r (units (drop (i + c.size) s)) ≡ hash_from h (units (drop i s))
-  hash_turn {r} {c} k d n e = rw (e, units_turn s i k d n) (sym (hash_append h (units_of c.code) (units (drop (i + c.size) s))))
-
-  pub hash_stop : {c : Char} → i < length s → Decoded s i c → c.size ≡ 0 → hash_from h (units (drop i s)) ≡ h
-  unfolding hash_from
-  hash_stop k d z = rw (units_end s i k d z)
-
-  pub hash_done : length s ≤ i → hash_from h (units (drop i s)) ≡ h
-  unfolding hash_from
-  hash_done k = rw (units_done s i k)
-
--- ---- the same of a valid text: a character stands at every place
+-- ---- the turns of the loop: what is left from here gives the whole, and is a text exactly if the whole is one
 
 pub record Left (start : ℕ) (s : List ℕ) (i h : ℕ) : Type 0 where
   pub inside : i ≤ length s
-  pub text : valid (drop i s) ≡ true
+  pub text : valid (drop i s) ≡ valid s
   pub hash : hash_from h (units (drop i s)) ≡ hash_from start (units s)
 
-module _ (start : ℕ) (s : List ℕ) {i h : ℕ} (l : Left start s i h) (k : i < length s) where
-  pub stands : 0 < (front (drop i s)).size
-  stands = omega (arith, whole (drop i s) (rw length-drop (omega arith)) l.text)
+pub left_all : (start : ℕ) (s : List ℕ) → Left start s 0 start
+left_all start s = record { inside = omega arith; text = refl; hash = refl }
 
-  module _ {c : Char} (d : Decoded s i c) where
-    pub stood : 0 < c.size
-    stood = rw d.is stands
+module _ (start : ℕ) (s : List ℕ) {i h : ℕ} (l : Left start s i h) where
+  pub left_turn : {r : ℕ} {c : Char} → i < length s → Decoded s i (Some c) → r ≡ hash_from h (units_of c.code) → Left start s (i + c.size) r
+  left_turn {r} {c} k d e =
+      let n : c.size ≡ 0 → ⊥ = λ z. omega (arith, decoded_some s i k d) in
+      record {
+        inside = d.fits;
+        text = sym (valid_turn s i k (decoded_size s i k d) n) ∙ l.text;
+        hash = rw e (sym (hash_append h (units_of c.code) (units (drop (i + c.size) s)))) ∙ ap (hash_from h) (sym (units_turn s i k d)) ∙ l.hash;
+      }
 
-    pub left_turn : {r : ℕ} → r ≡ hash_from h (units_of c.code) → Left start s (i + c.size) r
-    left_turn e =
-        let n : c.size ≡ 0 → ⊥ = λ z. omega (arith, stood) in
-        record { inside = d.fits; text = sym (valid_turn s i k (decoded_size d) n) ∙ l.text; hash = hash_turn s i h k d n e ∙ l.hash }
+  pub left_stop : i < length s → Decoded s i None → h ≡ hash_from start (units s)
+  unfolding hash_from
+  left_stop k d = rw (units_end s i k d) at l.hash
+
+  pub left_done : length s ≤ i → h ≡ hash_from start (units s)
+  unfolding hash_from
+  left_done k = rw (units_done s i k) at l.hash
+
+-- at every place of a valid text a character stands
+pub stands : (s : List ℕ) (i : ℕ) → valid s ≡ true → i < length s → valid (drop i s) ≡ valid s → 0 < (front (drop i s)).size
+stands s i v k e = omega (arith, whole (drop i s) (rw length-drop (omega arith)) (e ∙ v))
 
 -- ---- a text that is known to be of bytes below 128
 

@@ -1,72 +1,61 @@
 // The hash of Java's strings, the tag code, the index hash and its slot. A hash is kept modulo 2^32, as the bits of Java's int.
+#![tactic(auto)]
+
 mod mul31;
 
-ghost use Rattle.std.specs.Prelude.{◌≡◌, ◌+◌, ◌*◌, ◌%◌, ◌^◌, ◌<◌, ◌≤◌, true, [], ◌∷◌, length};
-ghost use Rattle.codec.specs.Bytes.{part};
-ghost use Rattle.utf8.specs.Utf8.{units, units_of, valid, Known};
+ghost use Rattle.std.specs.Prelude.{◌≡◌, ℕ, ◌+◌, ◌*◌, ◌%◌, ◌^◌, ◌<◌, true, [], ◌∷◌, length, drop};
+ghost use Rattle.utf8.specs.Utf8.{units, units_of, valid, Decoded, Known};
 ghost use Rattle.java_hash.specs.Hash.{hash_from, signed, carried, absolute, tag_code, topic_hash, key_hash, index_hash, slot_of};
 
-// A byte as a unit: 0 to 255, never negative.
-fn unit(x: u8) -> u32
-    ensures { (result ≡ x) × (result < 256) }
-{
-    x as u32
-}
+use utf8::Char;
 
 // One unit more.
-fn step(h: u32, u: u32) -> u32
-    ensures { result ≡ hash_from h (u ∷ []) }
+fn step(h: u32, unit: u32) -> u32
+    ensures { result ≡ hash_from h (unit ∷ []) }
 {
-    std::num::wrapping_add_u32(mul31::mul31(h), u)
+    mul31::mul31(h).wrapping_add(unit)
 }
 
-// Times 31 for each of two, four and eight bytes.
-fn mul31_2(h: u32) -> u32
-    ensures { result ≡ 31 ^ 2 * h % 4294967296 }
+// What h becomes by N units more, whose own hash is `more`: times 31 for each of them, plus theirs.
+fn onward<const N: u32>(h: u32, more: u32) -> u32
+    ensures { result ≡ (31 ^ N * h + more) % 4294967296 }
 {
-    mul31::mul31(mul31::mul31(h))
+    let mut times = h;
+    for _ in 0..N {
+        times = mul31::mul31(times);
+    }
+    times.wrapping_add(more)
 }
 
-fn mul31_4(h: u32) -> u32
-    ensures { result ≡ 31 ^ 4 * h % 4294967296 }
+// The hash of two, four and eight bytes, by those of their halves.
+fn pair(s: &[u8]) -> u32
+    requires { length s.now ≡ 2 }
+    ensures { result ≡ hash_from 0 s.now }
 {
-    mul31_2(mul31_2(h))
+    onward::<1>(u32::from(s[0]), u32::from(s[1]))
 }
 
-fn mul31_8(h: u32) -> u32
-    ensures { result ≡ 31 ^ 8 * h % 4294967296 }
+fn quad(s: &[u8]) -> u32
+    requires { length s.now ≡ 4 }
+    ensures { result ≡ hash_from 0 s.now }
 {
-    mul31_4(mul31_4(h))
+    let (front, back) = s.split_at(2);
+    onward::<2>(pair(front), pair(back))
 }
 
-// The hash of two, four and eight bytes: that of the first half, times 31 for each byte of the second, and that of the second.
-fn pair(s: &[u8], i: usize) -> u32
-    requires { i + 2 ≤ length s.now }
-    ensures { result ≡ hash_from 0 (part 2 i s.now) }
+fn octet(s: &[u8]) -> u32
+    requires { length s.now ≡ 8 }
+    ensures { result ≡ hash_from 0 s.now }
 {
-    std::num::wrapping_add_u32(mul31::mul31(unit(s[i])), unit(s[i + 1]))
-}
-
-fn quad(s: &[u8], i: usize) -> u32
-    requires { i + 4 ≤ length s.now }
-    ensures { result ≡ hash_from 0 (part 4 i s.now) }
-{
-    std::num::wrapping_add_u32(mul31_2(pair(s, i)), pair(s, i + 2))
-}
-
-fn octet(s: &[u8], i: usize) -> u32
-    requires { i + 8 ≤ length s.now }
-    ensures { result ≡ hash_from 0 (part 8 i s.now) }
-{
-    std::num::wrapping_add_u32(mul31_4(quad(s, i)), quad(s, i + 4))
+    let (front, back) = s.split_at(4);
+    onward::<4>(quad(front), quad(back))
 }
 
 // Eight bytes more.
-fn step8(h: u32, s: &[u8], i: usize) -> u32
-    requires { i + 8 ≤ length s.now }
-    ensures { result ≡ hash_from h (part 8 i s.now) }
+fn step8(h: u32, eight: &[u8; 8]) -> u32
+    ensures { result ≡ hash_from h eight.now }
 {
-    std::num::wrapping_add_u32(mul31_8(h), octet(s, i))
+    onward::<8>(h, octet(eight))
 }
 
 // The units of a character more.
@@ -77,114 +66,96 @@ fn step_code(h: u32, code: u32) -> u32
         return step(h, code);
     }
     let above = code - 65536;
-    step(step(h, 55296 + above / 1024), 56320 + above % 1024)
-}
-
-// The hash h, continued over bytes as units, one by one.
-fn hash_rest(start: u32, s: &[u8]) -> u32
-    ensures { result ≡ hash_from start s.now }
-{
-    let mut h = start;
-    let mut i: usize = 0;
-    while i < s.len() {
-        h = step(h, unit(s[i]));
-        i += 1;
-    }
-    h
+    step(step(h, 0xd800 + above / 1024), 0xdc00 + above % 1024)
 }
 
 // The hash h, continued over bytes as units: eight a turn, then the rest.
 fn hash_bytes(start: u32, s: &[u8]) -> u32
     ensures { result ≡ hash_from start s.now }
 {
-    let mut h = start;
-    let mut i: usize = 0;
-    while 8 <= s.len() - i {
-        h = step8(h, s, i);
-        i += 8;
-    }
-    hash_rest(h, &s[i..])
+    let (eights, rest) = s.as_chunks::<8>();
+    let h = eights.iter().fold(start, step8);
+    rest.iter().fold(h, |h, byte| step(h, u32::from(*byte)))
 }
 
-// The hash h, continued over the units of a text, character by character.
-fn hash_chars(start: u32, s: &[u8]) -> u32
-    requires { valid s.now ≡ true }
+// The hash h, continued over the units of the characters that `decode` finds one behind the other, up to the first place where it finds none.
+fn hash_decoded<F: Fn(usize) -> Option<Char>>(start: u32, s: &[u8], decode: F) -> u32
+    requires asked { (i : ℕ) → i < length s.now → valid (drop i s.now) ≡ valid s.now → F.pre decode i }
+    requires told { (i : ℕ) (r : _) → i < length s.now → F.post decode i r → Decoded s.now i r }
     ensures { result ≡ hash_from start (units s.now) }
 {
     let mut h = start;
-    let mut i: usize = 0;
+    let mut i = 0;
     while i < s.len() {
-        let c = utf8::decode_valid(s, i);
+        let Some(c) = decode(i) else {
+            return h;
+        };
         h = step_code(h, c.code);
         i += c.size;
     }
     h
 }
 
-// The same of any bytes: up to the first place where no character stands.
+// The hash h, continued over the units of a text.
+fn hash_chars(start: u32, s: &[u8]) -> u32
+    requires { valid s.now ≡ true }
+    ensures { result ≡ hash_from start (units s.now) }
+{
+    hash_decoded(start, s, |i| Some(utf8::decode_valid(s, i)))
+}
+
+// The same of any bytes.
 fn hash_any(start: u32, s: &[u8]) -> u32
     ensures { result ≡ hash_from start (units s.now) }
 {
-    let mut h = start;
-    let mut i: usize = 0;
-    while i < s.len() {
-        let found = utf8::decode(s, i);
-        if found.size == 0 {
-            return h;
-        }
-        h = step_code(h, found.code);
-        i += found.size;
-    }
-    h
+    hash_decoded(start, s, |i| utf8::decode(s, i))
 }
 
 // The signed number, carried into 64 bits.
 fn carry(h: u32) -> u64
     ensures { result ≡ carried (signed h) }
 {
-    if h < 2147483648 {
-        h as u64
-    } else {
-        18446744069414584320 + (h as u64)
-    }
+    i64::from(h.cast_signed()).cast_unsigned()
 }
 
 // The signed number's absolute value, and 0 for the least number.
 fn magnitude(h: u32) -> u32
     ensures { result ≡ absolute (signed h) }
 {
-    if h < 2147483648 {
-        return h;
-    }
-    if h == 2147483648 {
-        return 0;
-    }
-    (4294967296 - (h as u64)) as u32
+    h.cast_signed().checked_abs().unwrap_or(0).cast_unsigned()
 }
 
-// Of a text that was judged it may be known that each byte is below 128: then the bytes are the units. The three functions that follow each ask this by themselves, so
-// that the compiler takes the hash of bytes into their callers' loops and leaves that of characters outside.
+// The hash h, continued over the units of a text that was judged: where each byte is below 128 the bytes are the units. In line always, so that the
+// compiler takes the hash of bytes into the callers' loops and leaves that of characters outside.
+#[inline(always)]
+fn hash_text(start: u32, s: &[u8], plain: bool) -> u32
+    requires { Known plain s.now }
+    ensures { result ≡ hash_from start (units s.now) }
+{
+    if plain {
+        hash_bytes(start, s)
+    } else {
+        hash_chars(start, s)
+    }
+}
 
 // The tag code, as 64 bits.
 pub fn tag_code(tags: &[u8], plain: bool) -> u64
     requires { Known plain tags.now }
     ensures { result ≡ tag_code tags.now }
 {
-    if plain {
-        return carry(hash_bytes(0, tags));
-    }
-    carry(hash_chars(0, tags))
+    carry(hash_text(0, tags, plain))
 }
 
 // The tag code of any bytes.
 pub fn any_tag_code(tags: &[u8]) -> u64
     ensures { result ≡ tag_code tags.now }
 {
-    if utf8::plain(tags) {
-        let h = hash_bytes(0, tags);
-        return carry(h);
-    }
-    carry(hash_any(0, tags))
+    carry(if utf8::plain(tags) {
+        hash_bytes(0, tags)
+    } else {
+        hash_any(0, tags)
+    })
 }
 
 // The hash of topic and `#`, from which the hash of each key goes on.
@@ -192,10 +163,7 @@ pub fn topic_hash(topic: &[u8], plain: bool) -> u32
     requires { Known plain topic.now }
     ensures { result ≡ topic_hash topic.now }
 {
-    if plain {
-        return step(hash_bytes(0, topic), 35);
-    }
-    step(hash_chars(0, topic), 35)
+    step(hash_text(0, topic, plain), u32::from(b'#'))
 }
 
 // The index hash of a key, from its topic's hash.
@@ -203,10 +171,7 @@ pub fn key_hash(prefix: u32, key: &[u8], plain: bool) -> u32
     requires { Known plain key.now }
     ensures { result ≡ key_hash prefix key.now }
 {
-    if plain {
-        return magnitude(hash_bytes(prefix, key));
-    }
-    magnitude(hash_chars(prefix, key))
+    magnitude(hash_text(prefix, key, plain))
 }
 
 pub fn index_hash(topic: &[u8], key: &[u8], plain: bool) -> u32
@@ -221,5 +186,5 @@ pub fn slot(hash: u32, slots: u64) -> u64
     requires { 0 < slots }
     ensures { result ≡ slot_of slots hash }
 {
-    (hash as u64) % slots
+    u64::from(hash) % slots
 }

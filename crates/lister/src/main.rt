@@ -12,11 +12,10 @@ fn read_full(stdin: &mut Stdin, buffer: &mut [u8]) -> io::Result<usize>
 {
     let mut n = 0;
     while n < buffer.len() {
-        let got = stdin.read(&mut buffer[n..])?;
-        if got == 0 {
-            break;
+        match stdin.read(&mut buffer[n..])? {
+            0 => break,
+            got => n += got,
         }
-        n += got;
     }
     Ok(n)
 }
@@ -26,6 +25,5 @@ fn main(rt: HostRuntime) -> io::Result<()> {
     let n = read_full(&mut rt.stdin(), &mut input)?;
     let mut text = [0u8; 65536];
     let listed = listing::list(&input[..n], &mut text);
-    let written = listed.written;
-    rt.stdout().write_all(&text[..written])
+    rt.stdout().write_all(&text[..listed.written])
 }

@@ -3,6 +3,6 @@ pub mod Marks
 pub mod Tops
 pub mod Pieces
 pub mod Finding
-pub mod Keys
+pub mod KeyLaws
 pub mod Places
 pub mod KeyTexts

@@ -5,8 +5,7 @@
 ghost use Rattle.std.specs.Prelude.{◌≡◌};
 ghost use Rattle.swistopal.specs.Interface.{lent, call_in, Dispatches, tag_asked, read_queue};
 
-use consume_queue::Tag;
-use units::{LogPosition, QueueOffset};
+use units::{Answer, LogPosition, QueueOffset};
 
 #[unsafe(no_mangle)]
 pub extern "C" fn swistopal_dispatch(
@@ -35,20 +34,15 @@ pub extern "C" fn swistopal_dispatch(
         files,
         budget,
     );
-    let answer = made.answer;
     interface::put_progress(progress, made.progress, &counts);
     *steps = made.steps;
-    answer.number()
+    u32::from(made.answer)
 }
 
-fn tag_asked(given: u32, code: u64) -> Tag
+fn tag_asked(given: u32, code: u64) -> Option<u64>
     ensures { result ≡ tag_asked given code }
 {
-    if given == 0 {
-        Tag::Any
-    } else {
-        Tag::Code(code)
-    }
+    (given != 0).then_some(code)
 }
 
 #[unsafe(no_mangle)]
@@ -67,7 +61,6 @@ pub extern "C" fn swistopal_read_queue(
 ) -> u32
     ensures { record { answer = result; out = out.new; found = found.new } ≡ read_queue queues.now sizes.now directory.now progress.now row start wanted (tag_asked tag_given tag_code) out.old }
 {
-    let tag = tag_asked(tag_given, tag_code);
     let made = consume_queue::read_queue(
         queues,
         interface::queue_entries_in(sizes),
@@ -76,10 +69,17 @@ pub extern "C" fn swistopal_read_queue(
         row,
         QueueOffset(start),
         wanted,
-        tag,
+        tag_asked(tag_given, tag_code),
         out,
     );
-    let answer = made.answer;
-    *found = made.found as u64;
-    answer.number()
+    match made {
+        Ok(count) => {
+            *found = count as u64;
+            u32::from(Answer::Done)
+        }
+        Err(answer) => {
+            *found = 0;
+            u32::from(answer)
+        }
+    }
 }

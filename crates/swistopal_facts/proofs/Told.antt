@@ -1,22 +1,35 @@
 -- What the layer's function promised, as the C function tells it. Assumes nothing.
 use Prim.Native.Nat.{ℕ}
-use mathlib.Core.Path.{◌≡◌, sym, ◌∙◌, ap}
+use mathlib.Core.Path.{◌≡◌, refl, ◌∙◌, ap}
 use mathlib.Core.Bool.{Bool, true, false, not}
 use mathlib.Core.List.{List, [], ◌∷◌}
 use lib.ListN.{length}
-use borrow.Author.Tests.{not-true, not-false}
+use Rattle.std.proofs.Common.{Some, None}
+use Rattle.std.specs.Option.{unwrap_or}
 use Rattle.codec.specs.Choice.{pick}
 use Rattle.units.specs.declared.Answer.{Answer}
 use Rattle.units.specs.declared.Answer.TheVariants.{Done, BadSizes, BadHeader}
 use Rattle.units.specs.declared.Place.{Place}
 use Rattle.units.specs.Answers.{number_of}
+use Rattle.std.specs.Prelude.{Option}
+use Rattle.std.specs.Option.{UnwrapsOrElse}
+use Rattle.properties.specs.declared.Found.{Found}
+use Rattle.properties.specs.declared.Found.TheVariants.{Absent, One, Many}
 use Rattle.properties.specs.declared.Scanned.{Scanned}
+use Rattle.properties.specs.Finder.{found_place}
 use Rattle.index_file.specs.declared.IndexSizes.{IndexSizes}
-use Rattle.index_file.specs.Index.{sizes_ok, header_sound}
+use Rattle.index_file.specs.Index.{sizes_ok, header_sound, index_refusal}
 use Rattle.listing.specs.declared.Listed.{Listed}
 use Rattle.listing.specs.Listing.{ListOutcome}
 use Rattle.interface.specs.Structs.{index_sizes_in}
 use Rattle.swistopal_facts.specs.Facts.{place_of, values_of, index_answer, list}
+
+-- the place of what is found, where a place by default is empty
+pub placed : {Empty : Place → Type 0} → ((r : Place) → Empty r → (r.at ≡ 0) × (r.len ≡ 0)) → (f : Found) {o : Option Place} (r : Place) → o ≡ found_place f → UnwrapsOrElse o Empty r → r ≡ place_of f
+unfolding found_place place_of
+placed empty Absent r e u = let z = empty r (rw e at u) in λ i. record { at = z.0 i; len = z.1 i }
+placed empty (One p) r e u = rw e at u
+placed empty (Many p) r e u = rw e at u
 
 pub values_made : (s : Scanned) {s' : Scanned} {t k u : Place} → s' ≡ s → t ≡ place_of s'.tags → k ≡ place_of s'.keys → u ≡ place_of s'.unique_key
     → ◌≡◌ {A = List ℕ} (t.at ∷ t.len ∷ k.at ∷ k.len ∷ u.at ∷ u.len ∷ []) (values_of s)
@@ -27,19 +40,16 @@ values_made s e a b c =
 
 -- ---- the check of an index file
 
-module _ (z : IndexSizes) (index : List ℕ) {r : Bool} (sizes : r ≡ sizes_ok z.slot_count z.item_count (length index)) where
-  pub index_sizes : not r ≡ true → BadSizes ≡ index_answer z index
-  unfolding index_answer pick
-  index_sizes h = rw (sym sizes ∙ not-true r h)
-
-  module _ (fit : not r ≡ false) {u : Bool} (sound : u ≡ header_sound z.item_count index) where
-    pub index_header : not u ≡ true → BadHeader ≡ index_answer z index
-    unfolding index_answer pick
-    index_header h = rw (sym sizes ∙ not-false r fit, sym sound ∙ not-true u h)
-
-    pub index_good : not u ≡ false → Done ≡ index_answer z index
-    unfolding index_answer pick
-    index_good h = rw (sym sizes ∙ not-false r fit, sym sound ∙ not-false u h)
+module _ (z : IndexSizes) (index : List ℕ) where
+  -- what an index is refused with, or that it is in order
+  pub index_told : index_answer z index ≡ unwrap_or (index_refusal z.slot_count z.item_count index) Done
+  unfolding index_answer index_refusal pick
+  index_told = go (sizes_ok z.slot_count z.item_count (length index)) (header_sound z.item_count index)
+    where
+      go : (s h : Bool) → pick (not s) BadSizes (pick (not h) BadHeader Done) ≡ unwrap_or (pick s (pick h None (Some BadHeader)) (Some BadSizes)) Done
+      go true true = refl
+      go true false = refl
+      go false h = refl
 
 pub index_checked : (sizes index : List ℕ) {z : IndexSizes} {a : Answer} {n : ℕ} → z ≡ index_sizes_in sizes → a ≡ index_answer z index → n ≡ number_of a
     → n ≡ number_of (index_answer (index_sizes_in sizes) index)

@@ -12,7 +12,7 @@ ghost use Rattle.interface.specs.Structs.{index_sizes_in};
 ghost use Rattle.listing.specs.Listing.{listing};
 ghost use Rattle.swistopal_facts.specs.Facts.{place_of, values_of, index_answer, list};
 
-use index_file::IndexSizes;
+use index_file::{Index, IndexSizes};
 use properties::Found;
 use units::{Answer, Place};
 
@@ -41,8 +41,7 @@ pub extern "C" fn swistopal_makes_entry(system_flag: u64) -> u32
 pub extern "C" fn swistopal_item_count(system_flag: u64, properties: &[u8]) -> u64
     ensures { result ≡ length (record_keys (makes_items (transaction system_flag)) properties.now) }
 {
-    let text = properties::scan(properties);
-    let found = text.values;
+    let found = properties::scan(properties).values;
     dispatch_request::item_count(system_flag, properties, found) as u64
 }
 
@@ -62,25 +61,17 @@ pub extern "C" fn swistopal_has_item(
 fn place_of(found: Found) -> Place
     ensures { result ≡ place_of found }
 {
-    match found {
-        Found::Absent => Place { at: 0, len: 0 },
-        Found::One(place) => place,
-        Found::Many(last) => last,
-    }
+    found.place().unwrap_or_default()
 }
 
 #[unsafe(no_mangle)]
 pub extern "C" fn swistopal_find_values(properties: &[u8], values: &mut [u64; 6])
     ensures { values.new ≡ values_of (scanned properties.now) }
 {
-    let text = properties::scan(properties);
-    let found = text.values;
-    let found_tags = found.tags;
-    let found_keys = found.keys;
-    let found_unique_key = found.unique_key;
-    let tags = place_of(found_tags);
-    let keys = place_of(found_keys);
-    let unique_key = place_of(found_unique_key);
+    let found = properties::scan(properties).values;
+    let tags = place_of(found.tags);
+    let keys = place_of(found.keys);
+    let unique_key = place_of(found.unique_key);
     *values = [
         tags.at as u64,
         tags.len as u64,
@@ -94,13 +85,7 @@ pub extern "C" fn swistopal_find_values(properties: &[u8], values: &mut [u64; 6]
 fn index_answer(sizes: IndexSizes, index: &[u8]) -> Answer
     ensures { result ≡ index_answer sizes index.now }
 {
-    if !index_file::sizes_ok(sizes, index.len()) {
-        return Answer::BadSizes;
-    }
-    if !index_file::header_sound(index, sizes.item_count) {
-        return Answer::BadHeader;
-    }
-    Answer::Done
+    Index::open(index, sizes).err().unwrap_or(Answer::Done)
 }
 
 #[unsafe(no_mangle)]
@@ -108,8 +93,7 @@ pub extern "C" fn swistopal_check_index(index: &[u8], sizes: &[u64; 5]) -> u32
     ensures { result ≡ number_of (index_answer (index_sizes_in sizes.now) index.now) }
 {
     let z = interface::index_sizes_in(sizes);
-    let checked = index_answer(z, index);
-    checked.number()
+    u32::from(index_answer(z, index))
 }
 
 // A segment as the lister's text.
@@ -118,7 +102,6 @@ pub extern "C" fn swistopal_list(segment: &[u8], text: &mut [u8], written: &mut 
     ensures { record { answer = result; text = text.new; written = written.new } ≡ list (listing segment.now text.old) }
 {
     let made = listing::list(segment, text);
-    let answer = made.answer;
     *written = made.written as u64;
-    answer.number()
+    u32::from(made.answer)
 }

@@ -28,7 +28,6 @@ pub extern "C" fn swistopal_query(
         wanted,
         out,
     );
-    let answer = made.answer;
     *found = [made.found, made.read];
-    answer.number()
+    u32::from(made.answer)
 }

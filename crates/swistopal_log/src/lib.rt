@@ -6,6 +6,7 @@ ghost use Rattle.std.specs.Prelude.{◌≡◌};
 ghost use Rattle.record_writer.specs.Encode.{parts_of};
 ghost use Rattle.swistopal_log.specs.Log.{Appends, read_record};
 
+use record_writer::Parts;
 use units::LogPosition;
 
 #[unsafe(no_mangle)]
@@ -28,15 +29,16 @@ pub extern "C" fn swistopal_append(
         interface::geometry_in(sizes),
         w,
         fields,
-        born_host,
-        store_host,
-        body,
-        topic,
-        properties,
+        Parts {
+            born_host,
+            store_host,
+            body,
+            topic,
+            properties,
+        },
     );
-    let answer = made.answer;
     *write_position = made.write_position.0;
-    answer.number()
+    u32::from(made.answer)
 }
 
 #[unsafe(no_mangle)]
@@ -56,5 +58,5 @@ pub extern "C" fn swistopal_read_record(
         LogPosition(readable_end),
         record,
     );
-    answer.number()
+    u32::from(answer)
 }

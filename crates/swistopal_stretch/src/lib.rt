@@ -26,5 +26,5 @@ pub extern "C" fn swistopal_report(
         directory,
         figures,
     );
-    answer.number()
+    u32::from(answer)
 }

@@ -1,29 +1,13 @@
 -- Answers and numbers: there and back. Assumes nothing.
-use Prim.Native.Nat.{ℕ, zero, suc, ◌+◌, ◌≤◌}
+use Prim.Native.Nat.{ℕ, zero, suc, ◌+◌}
 use mathlib.Core.Path.{◌≡◌, refl, ◌∙◌}
 use mathlib.Core.List.{List, [], ◌∷◌}
 use native.Mathlib.Omega.{arith}
-use lib.ListN.{length}
 use Rattle.units.specs.declared.Answer.{Answer}
 use Rattle.units.specs.declared.Answer.TheVariants.{Done, BadSizes, BadPosition, BadDirectory, BadHeader, BadRequest, LogFull, BlankWritten, NotReadable, BudgetSpent, Damaged, QueueNotListed, OutOfStep, QueueFull, IndexFull, IndexAhead, ChainBroken, Malformed}
-use Rattle.units.specs.declared.Numbered.TheVariants.{Known, Unknown}
+use Rattle.std.specs.Prelude.{Some}
 use Rattle.units.specs.Answers.{number_of, answers, row_at, answer_of}
 use Rattle.units.specs.Claims.{AnswerNumber, NumberAnswer}
-
-pub row_past : (n : ℕ) (rows : List Answer) → length rows ≤ n → Unknown ≡ row_at n rows
-unfolding row_at
-row_past n [] h = refl
-row_past zero (a ∷ rows) h = absurd (omega arith)
-row_past (suc n) (a ∷ rows) h = row_past n rows (omega arith)
-
--- a number that is none of the first k is past them
-abbrev pub NoneBelow : ℕ → ℕ → Type 0
-NoneBelow zero n = Unit {0}
-NoneBelow (suc k) n = NoneBelow k n × (n ≡ k → ⊥)
-
-pub beyond : (k n : ℕ) → NoneBelow k n → k ≤ n
-beyond zero n h = omega arith
-beyond (suc k) n h = let e : k ≤ n = beyond k n h.0 in let d = h.1 in omega arith
 
 pub answer_number : AnswerNumber
 unfolding answer_of row_at answers
@@ -51,7 +35,7 @@ abbrev Ordered : ℕ → List Answer → Type 0
 Ordered k [] = Unit {0}
 Ordered k (a ∷ rows) = (number_of a ≡ k) × Ordered (suc k) rows
 
-row_number : (k n : ℕ) (rows : List Answer) (a : Answer) → Ordered k rows → row_at n rows ≡ Known a → number_of a ≡ k + n
+row_number : (k n : ℕ) (rows : List Answer) (a : Answer) → Ordered k rows → row_at n rows ≡ Some a → number_of a ≡ k + n
 unfolding row_at
 row_number k n [] a o e = absurd (let z : ◌≡◌ {A = ℕ} 0 1 = cc in omega arith)
 row_number k zero (b ∷ rows) a o e = let same : b ≡ a = cc in rw same at o.0 ∙ omega arith

@@ -1,9 +1,7 @@
 -- The answers' numbers: document 01, section "Answer numbers". Assumes nothing.
-use Rattle.std.specs.Prelude.{ℕ, zero, suc, List, [], ◌∷◌}
+use Rattle.std.specs.Prelude.{ℕ, zero, suc, Option, None, Some, List, [], ◌∷◌}
 use Rattle.units.specs.declared.Answer.{Answer}
 use Rattle.units.specs.declared.Answer.TheVariants.{Done, BadSizes, BadPosition, BadDirectory, BadHeader, BadRequest, LogFull, BlankWritten, NotReadable, BudgetSpent, Damaged, QueueNotListed, OutOfStep, QueueFull, IndexFull, IndexAhead, ChainBroken, Malformed}
-use Rattle.units.specs.declared.Numbered.{Numbered}
-use Rattle.units.specs.declared.Numbered.TheVariants.{Known, Unknown}
 
 abbrev pub number_of : Answer → ℕ
 number_of Done = 0
@@ -31,11 +29,11 @@ answers =
     Done ∷ BadSizes ∷ BadPosition ∷ BadDirectory ∷ BadHeader ∷ BadRequest ∷ LogFull ∷ BlankWritten ∷ NotReadable ∷ BudgetSpent ∷ Damaged
     ∷ QueueNotListed ∷ OutOfStep ∷ QueueFull ∷ IndexFull ∷ IndexAhead ∷ ChainBroken ∷ Malformed ∷ []
 
-unfoldable pub row_at : ℕ → List Answer → Numbered
-row_at n [] = Unknown
-row_at zero (a ∷ rest) = Known a
+unfoldable pub row_at : ℕ → List Answer → Option Answer
+row_at n [] = None
+row_at zero (a ∷ rest) = Some a
 row_at (suc n) (a ∷ rest) = row_at n rest
 
--- the answer in the table's row n
-unfoldable pub answer_of : ℕ → Numbered
+-- the answer in the table's row n, if there is that row
+unfoldable pub answer_of : ℕ → Option Answer
 answer_of n = row_at n answers

@@ -1,8 +1,11 @@
 // Numbers that must not be mixed, a run of bytes, and the answers of every operation.
 #![tactic(auto)]
 
-ghost use Rattle.std.specs.Prelude.{◌≡◌};
+ghost use Rattle.std.specs.Prelude.{◌≡◌, ◌+◌, ◌≤◌, length, take, drop, ok_or};
 ghost use Rattle.units.specs.Answers.{number_of, answer_of};
+
+use std::error::Error;
+use std::fmt;
 
 // A place in the commit log.
 #[derive(Clone, Copy)]
@@ -13,10 +16,21 @@ pub struct LogPosition(pub u64);
 pub struct QueueOffset(pub u64);
 
 // A run of bytes: where it begins, how long it is.
-#[derive(Clone, Copy)]
+#[derive(Clone, Copy, Default)]
 pub struct Place {
     pub at: usize,
     pub len: usize,
+}
+
+impl Place {
+    // The bytes that stand there.
+    pub fn of(self, bytes: &[u8]) -> &[u8]
+        requires { self.at + self.len ≤ length bytes.now }
+        ensures { result.now ≡ take self.len (drop self.at bytes.now) }
+    {
+        let end = self.at + self.len;
+        &bytes[self.at..end]
+    }
 }
 
 // What an operation answers, in the order of document 01's table.
@@ -60,18 +74,15 @@ pub enum Answer {
     Malformed,
 }
 
-// The answer that a number stands for.
-#[derive(Clone, Copy)]
-pub enum Numbered {
-    Known(Answer),
-    Unknown,
-}
+// A number that no answer has.
+#[derive(Clone, Copy, Debug, PartialEq, Eq)]
+pub struct UnknownAnswer(pub u32);
 
-impl Answer {
-    pub fn number(self) -> u32
-        ensures { result ≡ number_of self }
-    {
-        match self {
+impl From<Answer> for u32 {
+    ghost from_gives = { λ answer number. number ≡ number_of answer };
+
+    fn from(answer: Answer) -> u32 {
+        match answer {
             Answer::Done => 0,
             Answer::BadSizes => 1,
             Answer::BadPosition => 2,
@@ -92,31 +103,44 @@ impl Answer {
             Answer::Malformed => 17,
         }
     }
+}
 
-    // The way back, for whoever is given a number; no function of the store asks for it.
-    pub fn of_number(number: u32) -> Numbered
-        ensures { result ≡ answer_of number }
-    {
+// The way back, for whoever is given a number; no function of the store asks for it.
+impl TryFrom<u32> for Answer {
+    type Error = UnknownAnswer;
+
+    ghost try_from_gives = { λ number r. r ≡ ok_or (answer_of number) (record { 0 = number }) };
+
+    #[tactic(auto, unfolding(crate::specs::Answers::answer_of, crate::specs::Answers::row_at, crate::specs::Answers::answers))]
+    fn try_from(number: u32) -> Result<Self, UnknownAnswer> {
         match number {
-            0 => Numbered::Known(Answer::Done),
-            1 => Numbered::Known(Answer::BadSizes),
-            2 => Numbered::Known(Answer::BadPosition),
-            3 => Numbered::Known(Answer::BadDirectory),
-            4 => Numbered::Known(Answer::BadHeader),
-            5 => Numbered::Known(Answer::BadRequest),
-            6 => Numbered::Known(Answer::LogFull),
-            7 => Numbered::Known(Answer::BlankWritten),
-            8 => Numbered::Known(Answer::NotReadable),
-            9 => Numbered::Known(Answer::BudgetSpent),
-            10 => Numbered::Known(Answer::Damaged),
-            11 => Numbered::Known(Answer::QueueNotListed),
-            12 => Numbered::Known(Answer::OutOfStep),
-            13 => Numbered::Known(Answer::QueueFull),
-            14 => Numbered::Known(Answer::IndexFull),
-            15 => Numbered::Known(Answer::IndexAhead),
-            16 => Numbered::Known(Answer::ChainBroken),
-            17 => Numbered::Known(Answer::Malformed),
-            18..=4294967295 => Numbered::Unknown,
+            0 => Ok(Answer::Done),
+            1 => Ok(Answer::BadSizes),
+            2 => Ok(Answer::BadPosition),
+            3 => Ok(Answer::BadDirectory),
+            4 => Ok(Answer::BadHeader),
+            5 => Ok(Answer::BadRequest),
+            6 => Ok(Answer::LogFull),
+            7 => Ok(Answer::BlankWritten),
+            8 => Ok(Answer::NotReadable),
+            9 => Ok(Answer::BudgetSpent),
+            10 => Ok(Answer::Damaged),
+            11 => Ok(Answer::QueueNotListed),
+            12 => Ok(Answer::OutOfStep),
+            13 => Ok(Answer::QueueFull),
+            14 => Ok(Answer::IndexFull),
+            15 => Ok(Answer::IndexAhead),
+            16 => Ok(Answer::ChainBroken),
+            17 => Ok(Answer::Malformed),
+            18..=4294967295 => Err(UnknownAnswer(number)),
         }
     }
 }
+
+impl fmt::Display for UnknownAnswer {
+    fn fmt<W: fmt::Write>(&self, f: &mut fmt::Formatter<W>) -> fmt::Result {
+        write!(f, "no answer has number {}", self.0)
+    }
+}
+
+impl Error for UnknownAnswer {}

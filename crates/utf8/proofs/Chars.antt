@@ -1,6 +1,6 @@
 -- One character: its leading ones, the tests of its bytes, its size. Assumes nothing.
 use Prim.Native.Nat.{ℕ, zero, suc, ◌+◌, ◌-◌, ◌*◌, ◌/◌, ◌%◌, ◌≤◌, ◌<◌}
-use mathlib.Core.Path.{◌≡◌, refl, ap, sym, ◌∙◌}
+use mathlib.Core.Path.{◌≡◌, refl, ap, sym, subst, ◌∙◌}
 use mathlib.Core.Bool.{Bool, true, false, not, ◌&&◌, ◌||◌}
 use mathlib.Core.List.{List, ◌++◌}
 use mathlib.Core.Logic.{⊎_elim}
@@ -11,10 +11,13 @@ use lib.Dec.{ltb, leb, eqb}
 use lib.Seq.{get_or-drop}
 use lib.ListN.{length, get_or, drop, length-drop, get_or-eq_default, get_or-append}
 use borrow.Author.Tests.{eq-eqb, ne_eqb, eqb-true, eqb-false, ltb-true, ltb-false, leb-true, lt-ltb, le-ltb, le-leb, lt-leb}
+use Rattle.std.specs.Bool.{then_some}
+use Rattle.std.specs.Prelude.{Option, Some, None, IfSome}
+use Rattle.std.proofs.lemmas.Option.{none-some, same_Some}
 use Rattle.codec.specs.Choice.{pick}
 use Rattle.codec.proofs.Choices.{both}
 use Rattle.utf8.specs.declared.Char.{Char}
-use Rattle.utf8.specs.Utf8.{range, tail, one, two, three, four, char, none, first, front, Decoded}
+use Rattle.utf8.specs.Utf8.{range, tail, one, two, three, four, char, none, found, first, front, Decoded}
 use Rattle.utf8.specs.Inner.{leading_ones, by_leading_ones}
 
 -- ---- leading ones
@@ -292,28 +295,53 @@ module _ (a b c d : ℕ) where
   unfolding range
   four_is p q e f = rw (p, q, e, f) compact4
 
--- ---- by leading ones, as the code finds it: x, y, z, w are the bytes that it read
+-- ---- a character that was found
+
+pub found_some : (c : Char) → 0 < c.size → found c ≡ Some c
+unfolding found pick
+found_some c h = rw (ne_eqb c.size 0 (λ e. omega arith))
+
+found_none : (c : Char) → c.size ≡ 0 → found c ≡ None
+unfolding found pick
+found_none c h = rw (eq-eqb c.size 0 h)
+
+-- what stands is what was found, and nothing stands where none was
+pub found_is : (c d : Char) → Some c ≡ found d → (c ≡ d) × (0 < d.size)
+found_is c d e =
+    same_or d.size 0 ((c ≡ d) × (0 < d.size)) (λ z. absurd (none-some c (sym (found_none d z) ∙ sym e))) (λ n.
+    let h : 0 < d.size = omega arith in (same_Some c d (e ∙ found_some d h), h))
+
+pub not_found : (d : Char) → None ≡ found d → d.size ≡ 0
+not_found d e = same_or d.size 0 (d.size ≡ 0) (λ z. z) (λ n. absurd (none-some d (e ∙ found_some d (omega arith))))
+
+-- a row's character, if its bytes are one
+found_if : (t : Bool) (k u : ℕ) {z : Char} {r : Option Char} → z ≡ char (suc k) u → r ≡ then_some t z → r ≡ found (pick t (char (suc k) u) none)
+unfolding pick
+found_if true k u e f = f ∙ ap (λ (x : Char). Some x) e ∙ sym (found_some (char (suc k) u) (omega arith))
+found_if false k u e f = f ∙ sym (found_none none refl)
+
+-- ---- by leading ones, as the code finds it
 
 module _ (n a b c d : ℕ) where
-  pub made1 : {x : ℕ} → n ≡ 0 → x ≡ a → char 1 x ≡ by_leading_ones n a b c d
+  is1 : n ≡ 0 → char 1 a ≡ by_leading_ones n a b c d
   unfolding by_leading_ones pick
-  made1 e p = rw (e, p)
+  is1 e = rw e
 
-  pub made2 : {x y : ℕ} {t : Bool} {r : Char} → n ≡ 2 → x ≡ a → y ≡ b → t ≡ two x y → r ≡ pick t (char 2 (x % 32 * 64 + y % 64)) none → r ≡ by_leading_ones n a b c d
+  is2 : n ≡ 2 → pick (two a b) (char 2 (a % 32 * 64 + b % 64)) none ≡ by_leading_ones n a b c d
   unfolding by_leading_ones pick
-  made2 e p q t r = r ∙ rw (t, p, q, e)
+  is2 e = rw e
 
-  pub made3 : {x y z : ℕ} {t : Bool} {r : Char} → n ≡ 3 → x ≡ a → y ≡ b → z ≡ c → t ≡ three x y z → r ≡ pick t (char 3 ((x % 16 * 64 + y % 64) * 64 + z % 64)) none → r ≡ by_leading_ones n a b c d
+  is3 : n ≡ 3 → pick (three a b c) (char 3 ((a % 16 * 64 + b % 64) * 64 + c % 64)) none ≡ by_leading_ones n a b c d
   unfolding by_leading_ones pick
-  made3 e p q s t r = r ∙ rw (t, p, q, s, e)
+  is3 e = rw e
 
-  pub made4 : {x y z w : ℕ} {t : Bool} {r : Char} → n ≡ 4 → x ≡ a → y ≡ b → z ≡ c → w ≡ d → t ≡ four x y z w → r ≡ pick t (char 4 (((x % 8 * 64 + y % 64) * 64 + z % 64) * 64 + w % 64)) none → r ≡ by_leading_ones n a b c d
+  is4 : n ≡ 4 → pick (four a b c d) (char 4 (((a % 8 * 64 + b % 64) * 64 + c % 64) * 64 + d % 64)) none ≡ by_leading_ones n a b c d
   unfolding by_leading_ones pick
-  made4 e p q s u t r = r ∙ rw (t, p, q, s, u, e)
+  is4 e = rw e
 
-  pub made0 : (n ≡ 0 → ⊥) → (n ≡ 2 → ⊥) → (n ≡ 3 → ⊥) → (n ≡ 4 → ⊥) → none ≡ by_leading_ones n a b c d
+  is0 : (n ≡ 0 → ⊥) → (n ≡ 2 → ⊥) → (n ≡ 3 → ⊥) → (n ≡ 4 → ⊥) → none ≡ by_leading_ones n a b c d
   unfolding by_leading_ones pick
-  made0 p q r t = rw (ne_eqb n 0 p, ne_eqb n 2 q, ne_eqb n 3 r, ne_eqb n 4 t)
+  is0 p q r t = rw (ne_eqb n 0 p, ne_eqb n 2 q, ne_eqb n 3 r, ne_eqb n 4 t)
 
 -- ---- where a character stands its leading ones tell the row
 
@@ -323,24 +351,17 @@ module _ (n a b c d : ℕ) (h : 0 < (by_leading_ones n a b c d).size) where
   some true z i = refl
   some false z i = absurd (omega arith)
 
-  pub stood2 : {x y : ℕ} → n ≡ 2 → x ≡ a → y ≡ b → char 2 (x % 32 * 64 + y % 64) ≡ by_leading_ones n a b c d
-  stood2 e p q =
-      let f : pick (two a b) (char 2 (a % 32 * 64 + b % 64)) none ≡ by_leading_ones n a b c d = made2 n a b c d e refl refl refl refl in
-      rw (p, q) (some (two a b) (char 2 (a % 32 * 64 + b % 64)) (rw f h) ∙ f)
+  stood2 : n ≡ 2 → char 2 (a % 32 * 64 + b % 64) ≡ by_leading_ones n a b c d
+  stood2 e = let f = is2 n a b c d e in some (two a b) (char 2 (a % 32 * 64 + b % 64)) (rw f h) ∙ f
 
-  pub stood3 : {x y z : ℕ} → n ≡ 3 → x ≡ a → y ≡ b → z ≡ c → char 3 ((x % 16 * 64 + y % 64) * 64 + z % 64) ≡ by_leading_ones n a b c d
-  stood3 e p q r =
-      let f : pick (three a b c) (char 3 ((a % 16 * 64 + b % 64) * 64 + c % 64)) none ≡ by_leading_ones n a b c d = made3 n a b c d e refl refl refl refl refl in
-      rw (p, q, r) (some (three a b c) (char 3 ((a % 16 * 64 + b % 64) * 64 + c % 64)) (rw f h) ∙ f)
+  stood3 : n ≡ 3 → char 3 ((a % 16 * 64 + b % 64) * 64 + c % 64) ≡ by_leading_ones n a b c d
+  stood3 e = let f = is3 n a b c d e in some (three a b c) (char 3 ((a % 16 * 64 + b % 64) * 64 + c % 64)) (rw f h) ∙ f
 
   left4 : (n ≡ 0 → ⊥) → (n ≡ 2 → ⊥) → (n ≡ 3 → ⊥) → n ≡ 4
-  left4 p q r = same_or n 4 (n ≡ 4) (λ e. e) (λ t. let z : 0 ≡ (by_leading_ones n a b c d).size = ap (λ (c : Char). c.size) (made0 n a b c d p q r t) in absurd (omega arith))
+  left4 p q r = same_or n 4 (n ≡ 4) (λ e. e) (λ t. let z : 0 ≡ (by_leading_ones n a b c d).size = ap (λ (c : Char). c.size) (is0 n a b c d p q r t) in absurd (omega arith))
 
-  pub stood4 : {x y z w : ℕ} → (n ≡ 0 → ⊥) → (n ≡ 2 → ⊥) → (n ≡ 3 → ⊥) → x ≡ a → y ≡ b → z ≡ c → w ≡ d → char 4 (((x % 8 * 64 + y % 64) * 64 + z % 64) * 64 + w % 64) ≡ by_leading_ones n a b c d
-  stood4 n0 n2 n3 p q r s =
-      let f : pick (four a b c d) (char 4 (((a % 8 * 64 + b % 64) * 64 + c % 64) * 64 + d % 64)) none ≡ by_leading_ones n a b c d
-      = made4 n a b c d (left4 n0 n2 n3) refl refl refl refl refl refl in
-      rw (p, q, r, s) (some (four a b c d) (char 4 (((a % 8 * 64 + b % 64) * 64 + c % 64) * 64 + d % 64)) (rw f h) ∙ f)
+  stood4 : (n ≡ 0 → ⊥) → (n ≡ 2 → ⊥) → (n ≡ 3 → ⊥) → char 4 (((a % 8 * 64 + b % 64) * 64 + c % 64) * 64 + d % 64) ≡ by_leading_ones n a b c d
+  stood4 p q r = let f = is4 n a b c d (left4 p q r) in some (four a b c d) (char 4 (((a % 8 * 64 + b % 64) * 64 + c % 64) * 64 + d % 64)) (rw f h) ∙ f
 
   -- two bytes or more, as many as leading ones
   record Long (size : ℕ) : Type 0 where
@@ -349,9 +370,9 @@ module _ (n a b c d : ℕ) (h : 0 < (by_leading_ones n a b c d).size) where
 
   long : (n ≡ 0 → ⊥) → Long (by_leading_ones n a b c d).size
   long p =
-      same_or n 2 (Long (by_leading_ones n a b c d).size) (λ e. record { is = rw (← stood2 e refl refl) (sym e); least = omega arith }) (λ q.
-      same_or n 3 (Long (by_leading_ones n a b c d).size) (λ e. record { is = rw (← stood3 e refl refl refl) (sym e); least = omega arith }) (λ r.
-      let e = left4 p q r in record { is = rw (← stood4 p q r refl refl refl refl) (sym e); least = omega arith }))
+      same_or n 2 (Long (by_leading_ones n a b c d).size) (λ e. record { is = rw (← stood2 e) (sym e); least = omega arith }) (λ q.
+      same_or n 3 (Long (by_leading_ones n a b c d).size) (λ e. record { is = rw (← stood3 e) (sym e); least = omega arith }) (λ r.
+      let e = left4 p q r in record { is = rw (← stood4 p q r) (sym e); least = omega arith }))
 
 -- ---- which row it is
 
@@ -501,61 +522,81 @@ module _ (s : List ℕ) (at : ℕ) where
   here_fits : at < length s → here.size ≤ length s - at
   here_fits h = let rest : 0 < length (drop at s) = rw length-drop (omega arith) in rw (length-drop, front_here) at (front_fits (drop at s) rest)
 
--- ---- from its leading ones
+-- ---- from its leading ones: y, z, w are the bytes that the code read behind the first, v the character that it made of them
 
-pub decoded : (s : List ℕ) (at : ℕ) {n a : ℕ} {r : Char} → at < length s → n ≡ leading_ones a → a ≡ get_or s at 0
-    → r ≡ by_leading_ones n (get_or s (at + 0) 0) (get_or s (at + 1) 0) (get_or s (at + 2) 0) (get_or s (at + 3) 0) → Decoded s at r
-decoded s at {n} {a} {r} h e f g =
-    let z : at + 0 ≡ at = omega arith in
-    let is : r ≡ here s at = g ∙ rw (e, f, z) (by_ones _ _ _ _) in
-    let p = here_fits s at h in
-    record { is = is ∙ sym (front_here s at); fits = rw is (omega arith) }
+fits_found : (s : List ℕ) (at : ℕ) (c : Char) → at + c.size ≤ length s → IfSome (found c) (λ c. at + c.size ≤ length s)
+fits_found s at c h =
+    let P : Option Char → Type 0 = λ o. IfSome o (λ c. at + c.size ≤ length s) in
+    same_or c.size 0 (P (found c)) (λ e. subst P (sym (found_none c e)) tt) (λ n. subst P (sym (found_some c (omega arith))) h)
 
-pub at_0 : (s : List ℕ) (at : ℕ) → get_or s at 0 ≡ get_or s (at + 0) 0
-at_0 s at = let z : at + 0 ≡ at = omega arith in rw z
-
--- ---- the same where one stands: no row is judged, and its bytes are all there
-
-module _ (s : List ℕ) (at : ℕ) {n a : ℕ} (h : at < length s) (p : 0 < (front (drop at s)).size) (e : n ≡ leading_ones a) (f : a ≡ get_or s at 0) where
+module _ (s : List ℕ) (at : ℕ) {n : ℕ} (h : at < length s) (e : n ≡ leading_ones (get_or s at 0)) where
   abbrev it : Char
-  it = by_leading_ones n (get_or s (at + 0) 0) (get_or s (at + 1) 0) (get_or s (at + 2) 0) (get_or s (at + 3) 0)
+  it = by_leading_ones n (get_or s at 0) (get_or s (at + 1) 0) (get_or s (at + 2) 0) (get_or s (at + 3) 0)
 
-  stands : 0 < it.size
-  stands = let d = decoded s at h e f refl in rw d.is p
+  it_is : it ≡ here s at
+  it_is = rw e (by_ones (get_or s at 0) (get_or s (at + 1) 0) (get_or s (at + 2) 0) (get_or s (at + 3) 0))
 
-  pub room : (n ≡ 0 → ⊥) → (2 ≤ n) × (at + n ≤ length s)
-  room q =
-      let d = decoded s at h e f refl in
-      let l = long _ _ _ _ _ stands q in
-      (l.least, rw l.is at d.fits)
+  decoded : {r : Option Char} → r ≡ found it → Decoded s at r
+  decoded {r} g =
+      let is : r ≡ found (here s at) = g ∙ ap found it_is in
+      let p = here_fits s at h in
+      let P : Option Char → Type 0 = λ o. IfSome o (λ c. at + c.size ≤ length s) in
+      record {
+        is = is ∙ ap found (sym (front_here s at));
+        fits = subst P (sym is) (fits_found s at (here s at) (omega arith));
+      }
 
-  pub valid1 : {x : ℕ} → n ≡ 0 → x ≡ get_or s at 0 → Decoded s at (char 1 x)
-  valid1 q i = decoded s at h e f (made1 _ _ _ _ _ q (i ∙ at_0 s at))
+  pub decoded1 : {v : Char} → n ≡ 0 → v ≡ char 1 (get_or s at 0) → Decoded s at (Some v)
+  decoded1 q g = decoded (rw g (sym (found_some (char 1 (get_or s at 0)) (omega arith)) ∙ ap found (is1 n _ _ _ _ q)))
 
-  pub valid2 : {x y : ℕ} → n ≡ 2 → x ≡ get_or s at 0 → y ≡ get_or s (at + 1) 0 → Decoded s at (char 2 (x % 32 * 64 + y % 64))
-  valid2 q i j = decoded s at h e f (stood2 _ _ _ _ _ stands q (i ∙ at_0 s at) j)
+  pub decoded2 : {y : ℕ} {t : Bool} {v : Char} {r : Option Char} → n ≡ 2 → y ≡ get_or s (at + 1) 0 → t ≡ two (get_or s at 0) y → v ≡ char 2 (get_or s at 0 % 32 * 64 + y % 64) → r ≡ then_some t v → Decoded s at r
+  decoded2 q i t g f = decoded (found_if _ 1 _ g f ∙ rw (t, i) (ap found (is2 n _ _ _ _ q)))
 
-  pub valid3 : {x y z : ℕ} → n ≡ 3 → x ≡ get_or s at 0 → y ≡ get_or s (at + 1) 0 → z ≡ get_or s (at + 2) 0 → Decoded s at (char 3 ((x % 16 * 64 + y % 64) * 64 + z % 64))
-  valid3 q i j k = decoded s at h e f (stood3 _ _ _ _ _ stands q (i ∙ at_0 s at) j k)
+  pub decoded3 : {y z : ℕ} {t : Bool} {v : Char} {r : Option Char} → n ≡ 3 → y ≡ get_or s (at + 1) 0 → z ≡ get_or s (at + 2) 0 → t ≡ three (get_or s at 0) y z
+      → v ≡ char 3 ((get_or s at 0 % 16 * 64 + y % 64) * 64 + z % 64) → r ≡ then_some t v → Decoded s at r
+  decoded3 q i j t g f = decoded (found_if _ 2 _ g f ∙ rw (t, i, j) (ap found (is3 n _ _ _ _ q)))
 
-  pub valid4 : {x y z w : ℕ} → (n ≡ 0 → ⊥) → (n ≡ 2 → ⊥) → (n ≡ 3 → ⊥) → x ≡ get_or s at 0 → y ≡ get_or s (at + 1) 0 → z ≡ get_or s (at + 2) 0 → w ≡ get_or s (at + 3) 0
-      → Decoded s at (char 4 (((x % 8 * 64 + y % 64) * 64 + z % 64) * 64 + w % 64))
-  valid4 n0 n2 n3 i j k l = decoded s at h e f (stood4 _ _ _ _ _ stands n0 n2 n3 (i ∙ at_0 s at) j k l)
+  pub decoded4 : {y z w : ℕ} {t : Bool} {v : Char} {r : Option Char} → n ≡ 4 → y ≡ get_or s (at + 1) 0 → z ≡ get_or s (at + 2) 0 → w ≡ get_or s (at + 3) 0 → t ≡ four (get_or s at 0) y z w
+      → v ≡ char 4 (((get_or s at 0 % 8 * 64 + y % 64) * 64 + z % 64) * 64 + w % 64) → r ≡ then_some t v → Decoded s at r
+  decoded4 q i j k t g f = decoded (found_if _ 3 _ g f ∙ rw (t, i, j, k) (ap found (is4 n _ _ _ _ q)))
 
--- ---- its size, by its row: x, y, z are the bytes that the code read
+  pub decoded0 : (n ≡ 0 → ⊥) → (n ≡ 2 → ⊥) → (n ≡ 3 → ⊥) → (n ≡ 4 → ⊥) → Decoded s at None
+  decoded0 p q r t = decoded (sym (found_none none refl) ∙ ap found (is0 n _ _ _ _ p q r t))
 
-module _ (s : List ℕ) (at : ℕ) {x : ℕ} (p : x ≡ get_or s at 0) where
-  pub sized1 : x < 128 → (front (drop at s)).size ≡ 1
-  sized1 h = let w : get_or s at 0 < 128 = rw p at h in rw (front_here s at, first1 (get_or s at 0) (get_or s (at + 1) 0) (get_or s (at + 2) 0) (get_or s (at + 3) 0) (one_so (get_or s at 0) 0 0 0 w))
+  -- where one stands no row is judged, and its bytes are all there
+  module _ (p : 0 < (front (drop at s)).size) where
+    stands : 0 < it.size
+    stands = rw (it_is, ← front_here s at) p
 
-  module _ {y : ℕ} (q : y ≡ get_or s (at + 1) 0) where
-    pub sized2 : {t : Bool} → t ≡ two x y → t ≡ true → (front (drop at s)).size ≡ 2
-    sized2 e u =
-        let w : two (get_or s at 0) (get_or s (at + 1) 0) ≡ true = rw (p, q) at (sym e ∙ u) in
-        rw (front_here s at, first2 _ _ _ _ (two_first _ _ w) w)
+    stood : {v : Char} → v ≡ it → Decoded s at (Some v)
+    stood g = decoded (rw g (sym (found_some it stands)))
 
-    pub sized3 : {z : ℕ} {t : Bool} → z ≡ get_or s (at + 2) 0 → t ≡ three x y z → t ≡ true → (front (drop at s)).size ≡ 3
-    sized3 r e u =
-        let w : three (get_or s at 0) (get_or s (at + 1) 0) (get_or s (at + 2) 0) ≡ true = rw (p, q, r) at (sym e ∙ u) in
-        let m = three_first _ _ _ w in
-        rw (front_here s at, first3 _ _ _ _ m.0 m.1 w)
+    pub room : (n ≡ 0 → ⊥) → (2 ≤ n) × (at + n ≤ length s)
+    room q =
+        let l = long _ _ _ _ _ stands q in
+        (l.least, rw (← l.is, it_is) (omega (arith, here_fits s at h)))
+
+    pub valid1 : {v : Char} → n ≡ 0 → v ≡ char 1 (get_or s at 0) → Decoded s at (Some v)
+    valid1 q g = stood (g ∙ is1 n _ _ _ _ q)
+
+    pub valid2 : {v : Char} → n ≡ 2 → v ≡ char 2 (get_or s at 0 % 32 * 64 + get_or s (at + 1) 0 % 64) → Decoded s at (Some v)
+    valid2 q g = stood (g ∙ stood2 n _ _ _ _ stands q)
+
+    pub valid3 : {v : Char} → n ≡ 3 → v ≡ char 3 ((get_or s at 0 % 16 * 64 + get_or s (at + 1) 0 % 64) * 64 + get_or s (at + 2) 0 % 64) → Decoded s at (Some v)
+    valid3 q g = stood (g ∙ stood3 n _ _ _ _ stands q)
+
+    pub valid4 : {v : Char} → (n ≡ 0 → ⊥) → (n ≡ 2 → ⊥) → (n ≡ 3 → ⊥)
+        → v ≡ char 4 (((get_or s at 0 % 8 * 64 + get_or s (at + 1) 0 % 64) * 64 + get_or s (at + 2) 0 % 64) * 64 + get_or s (at + 3) 0 % 64) → Decoded s at (Some v)
+    valid4 n0 n2 n3 g = stood (g ∙ stood4 n _ _ _ _ stands n0 n2 n3)
+
+-- ---- its size, by its row
+
+module _ (s : List ℕ) (at : ℕ) where
+  pub sized1 : get_or s at 0 < 128 → (front (drop at s)).size ≡ 1
+  sized1 h = rw (front_here s at, first1 (get_or s at 0) (get_or s (at + 1) 0) (get_or s (at + 2) 0) (get_or s (at + 3) 0) (one_so (get_or s at 0) 0 0 0 h))
+
+  pub sized2 : two (get_or s at 0) (get_or s (at + 1) 0) ≡ true → (front (drop at s)).size ≡ 2
+  sized2 w = rw (front_here s at, first2 _ _ _ _ (two_first _ _ w) w)
+
+  pub sized3 : three (get_or s at 0) (get_or s (at + 1) 0) (get_or s (at + 2) 0) ≡ true → (front (drop at s)).size ≡ 3
+  sized3 w = let m = three_first _ _ _ w in rw (front_here s at, first3 _ _ _ _ m.0 m.1 w)

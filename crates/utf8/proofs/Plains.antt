@@ -1,14 +1,12 @@
 -- Bytes below 80 hex: joined texts and parts, a text of such bytes, the turns of the loop that goes byte by byte. Assumes nothing.
-use Prim.Native.Nat.{ℕ, zero, suc, ◌+◌, ◌≤◌, ◌<◌}
+use Prim.Native.Nat.{ℕ, zero, suc}
 use mathlib.Core.Path.{◌≡◌, refl, ap, sym, ◌∙◌}
 use mathlib.Core.Bool.{Bool, true, false, ◌&&◌}
 use mathlib.Core.List.{List, [], ◌∷◌, ◌++◌}
-use native.Mathlib.Numerals.{add-one}
-use native.Mathlib.Omega.{arith}
 use lib.Dec.{ltb}
-use lib.ListN.{length, get_or, take, drop, drop_of_length-le}
-use lib.Seq.{drop-cons}
+use lib.ListN.{take, drop}
 use borrow.Author.Tests.{ltb-true}
+use Rattle.std.specs.List.{fold}
 use Rattle.codec.specs.Bytes.{part}
 use Rattle.codec.proofs.Choices.{both}
 use Rattle.utf8.specs.Utf8.{plain, valid_from, valid, units_from, units}
@@ -53,24 +51,12 @@ unfolding plain units units_from
 plain_units [] e = refl
 plain_units (x ∷ l) e = let p = both (ltb x 128) (plain l) e in units_ahead x l (ltb-true x 128 p.0) ∙ ap (λ (us : List ℕ). x ∷ us) (plain_units l p.1)
 
--- ---- the loop that goes byte by byte
+-- ---- byte by byte: what was found so far, and all that is left
 
--- what was found, and what is left from place i on, is the whole
-pub record Judged (s : List ℕ) (i : ℕ) (w : Bool) : Type 0 where
-  pub inside : i ≤ length s
-  pub whole : w && plain (drop i s) ≡ plain s
+and_plain : (w : Bool) (l : List ℕ) → fold (λ w b. w && ltb b 128) w l ≡ w && plain l
+unfolding plain
+and_plain w [] = sym (and_true w)
+and_plain w (b ∷ l) = and_plain (w && ltb b 128) l ∙ sym (and_assoc w (ltb b 128) (plain l))
 
-pub judged_start : (s : List ℕ) → Judged s 0 true
-judged_start s = record { inside = omega arith; whole = refl }
-
-module _ (s : List ℕ) (i : ℕ) (w : Bool) (j : Judged s i w) where
-  pub judged_1 : {b : ℕ} → i < length s → b ≡ get_or s i 0 → Judged s (i + 1) (w && ltb b 128)
-  unfolding plain
-  judged_1 {b} h e =
-      let t : plain (drop i s) ≡ ltb b 128 && plain (drop (i + 1) s) = rw (drop-cons s i 0 h, add-one, e) in
-      record { inside = omega arith; whole = sym (and_assoc w (ltb b 128) (plain (drop (i + 1) s))) ∙ ap (λ (x : Bool). w && x) (sym t) ∙ j.whole }
-
-  -- nothing is left
-  pub judged_end : length s ≤ i → w ≡ plain s
-  unfolding plain
-  judged_end h = sym (and_true w) ∙ rw (drop_of_length-le s h) at j.whole
+pub all_plain : (l : List ℕ) {w : Bool} → w ≡ fold (λ w b. w && ltb b 128) true l → w ≡ plain l
+all_plain l e = e ∙ and_plain true l

@@ -1,18 +1,19 @@
 -- Texts: one character more, one byte below 128 more, joined texts. Assumes nothing.
 use Prim.Native.Nat.{ℕ, zero, suc, ◌+◌, ◌-◌, ◌≤◌, ◌<◌}
 use mathlib.Core.Path.{◌≡◌, refl, ap, sym, ◌∙◌}
-use mathlib.Core.Bool.{Bool, true, false}
+use mathlib.Core.Bool.{true, false}
 use mathlib.Core.List.{List, [], ◌∷◌, ◌++◌, append_assoc}
 use native.Mathlib.Omega.{arith}
-use lib.ListN.{length, get_or, drop, length-drop, length-append, drop_of_length-le}
+use lib.ListN.{length, drop, length-drop, length-append, drop_of_length-le}
 use lib.Seq.{drop-drop, drop-append-le}
 use borrow.Author.Tests.{lt-ltb, eq-eqb, ne_eqb}
+use Rattle.std.specs.Prelude.{Some, None}
 use Rattle.codec.specs.Choice.{pick}
 use Rattle.utf8.specs.declared.Char.{Char}
-use Rattle.utf8.specs.Utf8.{two, three, char, front, Decoded, units_of, valid_from, valid, units_from, units}
+use Rattle.utf8.specs.Utf8.{char, front, Decoded, units_of, valid_from, valid, units_from, units}
 use Rattle.utf8.specs.Inner.{Behind}
 use Rattle.utf8.specs.Claims.{JoinedValid, JoinedUnits}
-use Rattle.utf8.proofs.Chars.{one_so, first1, front_fits, front_joined, at_0, sized1, sized2, sized3}
+use Rattle.utf8.proofs.Chars.{one_so, first1, front_fits, front_joined, found_is, not_found}
 
 -- ---- bytes still to be passed
 
@@ -71,14 +72,24 @@ module _ (s : List ℕ) (i : ℕ) (h : i < length s) where
   pub valid_end : (front (drop i s)).size ≡ 0 → valid (drop i s) ≡ false
   valid_end e = valid_stop (drop i s) rest e
 
-  pub units_turn : {r : Char} → Decoded s i r → (r.size ≡ 0 → ⊥) → units (drop i s) ≡ units_of r.code ++ units (drop (i + r.size) s)
-  units_turn {r} d n =
-      let e : front (drop i s) ≡ r = sym d.is in
-      let m : (front (drop i s)).size ≡ 0 → ⊥ = rw e n in
-      units_next (drop i s) rest m ∙ rw (e, drop-drop r.size i s)
+  module _ {c : Char} (d : Decoded s i (Some c)) where
+    is_front : c ≡ front (drop i s)
+    is_front = (found_is _ _ d.is).0
 
-  pub units_end : {r : Char} → Decoded s i r → r.size ≡ 0 → units (drop i s) ≡ []
-  units_end {r} d z = let e : front (drop i s) ≡ r = sym d.is in units_stop (drop i s) rest (rw e z)
+    pub decoded_size : (front (drop i s)).size ≡ c.size
+    decoded_size = sym (ap (λ (x : Char). x.size) is_front)
+
+    pub decoded_some : 0 < c.size
+    decoded_some = rw (← decoded_size) (found_is _ _ d.is).1
+
+    pub units_turn : units (drop i s) ≡ units_of c.code ++ units (drop (i + c.size) s)
+    units_turn =
+        let f : front (drop i s) ≡ c = sym is_front in
+        let n : (front (drop i s)).size ≡ 0 → ⊥ = rw f (λ z. omega (arith, decoded_some)) in
+        units_next (drop i s) rest n ∙ rw (f, drop-drop c.size i s)
+
+  pub units_end : Decoded s i None → units (drop i s) ≡ []
+  units_end d = units_stop (drop i s) rest (not_found _ d.is)
 
 pub valid_done : (s : List ℕ) (i : ℕ) → length s ≤ i → valid (drop i s) ≡ true
 unfolding valid valid_from
@@ -93,35 +104,22 @@ units_done s i h = rw (drop_of_length-le s h)
 pub behind_none : (s : List ℕ) (at : ℕ) → at ≤ length s → Behind s at at
 behind_none s at h = record { on = omega arith; inside = h; left = refl }
 
-pub decoded_size : {s : List ℕ} {i : ℕ} {c : Char} → Decoded s i c → (front (drop i s)).size ≡ c.size
-decoded_size d = sym (ap (λ (x : Char). x.size) d.is)
-
 onward : {s : List ℕ} {at i r : ℕ} → Behind s at i → Behind s i r → Behind s at r
 onward b c = record { on = omega (arith, b.on, c.on); inside = c.inside; left = c.left ∙ b.left }
 
 module _ (s : List ℕ) (at i : ℕ) (b : Behind s at i) where
   -- one more
-  behind_char : {n : ℕ} → i < length s → i + n ≤ length s → (front (drop i s)).size ≡ n → (n ≡ 0 → ⊥) → Behind s at (i + n)
-  behind_char h k e m = onward b (record { on = omega arith; inside = k; left = sym (valid_turn s i h e m) })
+  pub behind_more : {n : ℕ} → 0 < n → n ≤ length s - i → (front (drop i s)).size ≡ n → Behind s at (i + n)
+  behind_more h k e = onward b (record { on = omega arith; inside = omega (arith, b.inside); left = sym (valid_turn s i (omega arith) e (λ z. omega arith)) })
 
   -- one that was decoded, and those like it
-  pub behind_decoded : {c : Char} {r : ℕ} → i < length s → Decoded s i c → (c.size ≡ 0 → ⊥) → Behind s (i + c.size) r → Behind s at r
-  behind_decoded h d m = onward (behind_char h d.fits (decoded_size d) m)
-
-  pub behind1 : {x : ℕ} → i < length s → x ≡ get_or s i 0 → x < 128 → Behind s at (i + 1)
-  behind1 h p k = behind_char h (omega arith) (sized1 s i p k) (λ e. omega arith)
-
-  module _ {x y : ℕ} {t : Bool} (p : x ≡ get_or s (i + 0) 0) (q : y ≡ get_or s (i + 1) 0) where
-    pub behind2 : 2 ≤ length s - i → t ≡ two x y → t ≡ true → Behind s at (i + 2)
-    behind2 h e u = behind_char (omega arith) (omega arith) (sized2 s i (p ∙ sym (at_0 s i)) q e u) (λ e. omega arith)
-
-    pub behind3 : {z : ℕ} → z ≡ get_or s (i + 2) 0 → 3 ≤ length s - i → t ≡ three x y z → t ≡ true → Behind s at (i + 3)
-    behind3 r h e u = behind_char (omega arith) (omega arith) (sized3 s i (p ∙ sym (at_0 s i)) q r e u) (λ e. omega arith)
+  pub behind_decoded : {c : Char} {r : ℕ} → i < length s → Decoded s i (Some c) → Behind s (i + c.size) r → Behind s at r
+  behind_decoded h d = onward (behind_more (decoded_some s i h d) (omega (arith, d.fits)) (decoded_size s i h d))
 
 -- from the front on: a place where none stands, the end
 module _ (s : List ℕ) (i : ℕ) (b : Behind s 0 i) where
-  pub none_behind : {c : Char} → i < length s → Decoded s i c → c.size ≡ 0 → false ≡ valid s
-  none_behind h d e = sym (valid_end s i h (decoded_size d ∙ e)) ∙ b.left
+  pub none_behind : i < length s → Decoded s i None → false ≡ valid s
+  none_behind h d = sym (valid_end s i h (not_found _ d.is)) ∙ b.left
 
   pub all_behind : length s ≤ i → true ≡ valid s
   all_behind h = sym (valid_done s i h) ∙ b.left

@@ -1,5 +1,5 @@
 -- UTF-8 as RFC 3629 gives it, and the UTF-16 units of a text (RFC 2781). Quotations are from these two. Assumes nothing.
-use Rattle.std.specs.Prelude.{ℕ, zero, suc, ◌+◌, ◌*◌, ◌-◌, ◌/◌, ◌%◌, ◌≤◌, ◌≡◌, Bool, true, false, ◌&&◌, ◌||◌, List, [], ◌∷◌, ◌++◌, ltb, leb, eqb, length, get_or, drop}
+use Rattle.std.specs.Prelude.{ℕ, zero, suc, ◌+◌, ◌*◌, ◌-◌, ◌/◌, ◌%◌, ◌≤◌, ◌≡◌, Bool, true, false, ◌&&◌, ◌||◌, List, [], ◌∷◌, ◌++◌, ltb, leb, eqb, length, get_or, drop, Option, Some, None, IfSome}
 use Rattle.codec.specs.Choice.{pick}
 use Rattle.utf8.specs.declared.Char.{Char}
 
@@ -62,10 +62,14 @@ first a b c d =
 unfoldable pub front : List ℕ → Char
 front l = first (get_or l 0 0) (get_or l 1 0) (get_or l 2 0) (get_or l 3 0)
 
+-- a character, if it is one
+unfoldable pub found : Char → Option Char
+found c = pick (eqb c.size 0) None (Some c)
+
 -- what decoding at a place gives
-pub record Decoded (s : List ℕ) (at : ℕ) (r : Char) : Type 0 where
-  pub is : r ≡ front (drop at s)
-  pub fits : at + r.size ≤ length s
+pub record Decoded (s : List ℕ) (at : ℕ) (r : Option Char) : Type 0 where
+  pub is : r ≡ found (front (drop at s))
+  pub fits : IfSome r (λ c. at + c.size ≤ length s)
 
 -- ---- UTF-16: RFC 2781, section 2.1
 

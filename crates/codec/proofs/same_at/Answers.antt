@@ -1,22 +1,18 @@
--- `codec::same_at` meets its contract: after i turns the flag says whether the first i bytes agree. Assumes nothing.
-use mathlib.Core.Path.{◌∙◌}
-use native.Mathlib.Omega.{arith}
-use Rattle.codec.proofs.Loops.{same_none, same_differs, same_agrees, same_whole}
+-- `codec::same_at` meets its contract. Assumes nothing.
+use Prim.Native.Nat.{◌+◌, ◌-◌}
+use mathlib.Core.Bool.{◌&&◌, true}
+use lib.ListN.{length, take, drop}
+use Rattle.std.specs.Prelude.{◌==◌}
+use Rattle.std.proofs.Common.{rules}
+use Rattle.std.proofs.lemmas.Iterator.{YieldsList-from_slice, YieldsList-from_zip}
+use Rattle.std.proofs.lemmas.Iterator.Consumers.{fold_from_yields_List}
+use Rattle.codec.proofs.Equal.{same_folded}
 use Rattle.codec.proofs.same_at.Goals as goal
-use Rattle.codec.proofs.same_at.Goals.{then-s-at, else-s-at}
-
-pub loop-i-init : goal.loop-i-init
-loop-i-init c = (omega arith, same_none _ _ c.args.piece.now)
-
-pub loop-i-preserved : goal.loop-i-preserved
-loop-i-preserved c =
-    let v = c.loop-i.invariant.1 in (
-      omega arith,
-      elim c.if-s-at.branch [
-        | then-s-at w ↦ w.equal-is ∙ same_differs _ _ _ _ (omega arith) (omega arith) w.if-s-at.true
-        | else-s-at w ↦ w.equal-is ∙ same_agrees _ _ _ _ (omega arith) (omega arith) v w.if-s-at.false
-      ],
-    )
 
 pub returns : goal.returns
-returns c = same_whole _ _ _ _ (omega arith) c.loop-i.invariant.1
+returns c =
+    let at = c.args.at in
+    let piece = c.args.piece.now in
+    same_folded at c.args.s.now piece c.requires
+    (fold_from_yields_List _ (λ t p. t && (p.0 == p.1)) true _ c.fold.ensures.ran
+    (YieldsList-from_zip (YieldsList-from_slice (take (at + length piece - at) (drop at c.args.s.now)) cc) (YieldsList-from_slice piece cc)) (λ a x b q k. search rules))

@@ -1,26 +1,17 @@
--- `directory::row_from` meets its contract. The loop's invariant, `Seeking`: what is found from here on is what is found at all. Assumes nothing.
-use mathlib.Core.Path.{refl}
-use Rattle.directory.proofs.Chain.{row_here}
-use Rattle.directory.proofs.Walks.{seeking_found, seeking_on, seeking_end}
-use borrow.Author.Rules.{rules}
+-- `directory::row_from` meets its contract: the row's number is its place among the rows. Assumes nothing.
+use mathlib.Core.Path.{refl, ◌∙◌}
+use Rattle.std.proofs.Common.{rules, inl}
+use Rattle.std.proofs.lemmas.Iterator.Consumers.{YieldsList-from_first}
+use Rattle.std.proofs.lemmas.Iterator.Search.{position_from_yields_List}
+use Rattle.directory.specs.Directory.{names}
+use Rattle.directory.specs.Inner.{queue_of, rows_of}
+use Rattle.directory.proofs.Walks.{rows_fit, sought}
 use Rattle.directory.proofs.row_from.Goals as goal
 
-pub loop-place-init : goal.loop-place-init
-loop-place-init c = record { within = search rules; few = search rules; made = c.requires; rest = refl }
-
-pub size_at-size-requires : goal.size_at-size-requires
-size_at-size-requires c = row_here _ _ c.loop-place-test.true c.loop-place.invariant.made
-
-pub is_queue-requires : goal.is_queue-requires
-is_queue-requires c = c.size_at-size.ensures
-
-pub returns-then-is_queue : goal.returns-then-is_queue
-returns-then-is_queue c =
-    seeking_found _ _ _ _ _ c.loop-place.invariant c.loop-place-test.true _ c.size_at-size.ensures c.if-is_queue.true c.is_queue.ensures
-
-pub loop-place-preserved : goal.loop-place-preserved
-loop-place-preserved c =
-    seeking_on _ _ _ _ _ c.loop-place.invariant c.loop-place-test.true _ c.size_at-size.ensures c.if-is_queue.false c.is_queue.ensures
+pub position-requires-clause-fits : goal.position-requires-clause-fits
+position-requires-clause-fits c = inl (rows_fit _ c.requires)
 
 pub returns : goal.returns
-returns c = seeking_end _ _ _ _ _ c.loop-place.invariant c.loop-place-test.false
+returns c =
+    position_from_yields_List (names c.args.topic.now c.args.id) c.position.new.self _ _ c.position.ensures.ran (YieldsList-from_first queue_of (λ s. rows_of s.rest.now) _ refl) (λ x b q k. search rules)
+    ∙ sought c.args.topic.now c.args.id (rows_of c.args.dir.now)

@@ -1,15 +1,13 @@
--- `dispatch::run_call` meets its contract: either list of requests has places for those that are read ahead. Assumes nothing.
-use borrow.Author.Rules.{rules}
+-- `dispatch::run_call` meets its contract: a run that ends the call, or one run behind another. Assumes nothing.
+use native.Mathlib.Omega.{arith}
+use Rattle.dispatch.proofs.Running.{rest_sound, rest_under, rest_joined}
 use Rattle.dispatch.proofs.run_call.Goals as goal
 
-pub run_short-requires : goal.run_short-requires
-run_short-requires c = (c.requires, search rules, search rules)
+pub run_long-rest-requires : goal.run_long-rest-requires
+run_long-rest-requires c = rest_sound _ _ _ _ _ c.in-Err.ensures c.requires
 
-pub returns-then-budget-le-SHORT_BATCH : goal.returns-then-budget-le-SHORT_BATCH
-returns-then-budget-le-SHORT_BATCH c = c.run_short.ensures
+pub overflow_add-result : goal.overflow_add-result
+overflow_add-result c = omega (arith, rest_under _ _ _ _ _ c.in-Err.ensures c.run_long-rest.ensures, c.ranges.budget)
 
-pub run_short-requires-2 : goal.run_short-requires-2
-run_short-requires-2 c = (c.requires, search rules, search rules)
-
-pub returns : goal.returns
-returns c = c.run_short-2.ensures
+pub returns-in-Err : goal.returns-in-Err
+returns-in-Err c = rest_joined _ _ _ _ _ c.in-Err.ensures c.run_long-rest.ensures

@@ -13,23 +13,23 @@ returns-then-not-makes c = none_made _ _ _ _ (ap not c.if-not-makes.true)
 pub topic_hash-prefix-requires : goal.topic_hash-prefix-requires
 topic_hash-prefix-requires c = topic_known c.requires.0
 
-pub value-requires : goal.value-requires
-value-requires c = unique_key_inside _ (text_values c.requires.0)
+pub value-unique_key-requires : goal.value-unique_key-requires
+value-unique_key-requires c = unique_key_inside _ (text_values c.requires.0)
 
 pub gather_unique-first-requires : goal.gather_unique-first-requires
 gather_unique-first-requires c =
     let p = c.requires in
-    (rw c.value.ensures (unique_key_known p.0), p.1)
+    (rw c.value-unique_key.ensures (unique_key_known p.0), p.1)
 
-pub value-requires-2 : goal.value-requires-2
-value-requires-2 c = keys_inside _ (text_values c.requires.0)
+pub value-keys-requires : goal.value-keys-requires
+value-keys-requires c = keys_inside _ (text_values c.requires.0)
 
 pub gather_keys-requires : goal.gather_keys-requires
 gather_keys-requires c =
     let g = c.gather_unique-first.ensures in
-    (rw c.value-2.ensures (keys_known c.requires.0), omega (arith, unique_fits _ _ _ c.requires.1 g, g.long))
+    (rw c.value-keys.ensures (keys_known c.requires.0), omega (arith, unique_fits _ _ _ c.requires.1 g, g.long))
 
 pub returns : goal.returns
 returns c =
     let p = c.requires in
-    all_made _ _ _ _ _ (ap not c.if-not-makes.false) c.topic_hash-prefix.ensures (text_values p.0) c.value.ensures c.value-2.ensures p.1 c.gather_unique-first.ensures c.gather_keys.ensures
+    all_made _ _ _ _ _ (ap not c.if-not-makes.false) c.topic_hash-prefix.ensures (text_values p.0) c.value-unique_key.ensures c.value-keys.ensures p.1 c.gather_unique-first.ensures c.gather_keys.ensures

@@ -1,66 +1,33 @@
--- `dispatch_request::gather_keys` meets its contract: the hashes in the list, and those of the keys from `at` on, are all. Assumes nothing.
-use mathlib.Core.Path.{sym, ◌∙◌}
+-- `dispatch_request::gather_keys` meets its contract: the hashes in the list, and those of the keys that are left, are all. Assumes nothing.
+use mathlib.Core.Path.{◌≡◌, ◌∙◌}
 use native.Mathlib.Omega.{arith}
 use Rattle.properties.specs.Keys.{key_places}
-use Rattle.properties.specs.Claims.{KeyLeads}
-use Rattle.properties.proofs.Keys.{key_next, key_done}
-use Rattle.properties.proofs.KeyTexts.{keys_valid}
-use Rattle.dispatch_request.proofs.Texts.{key_known, keys_behind, lent_known}
+use Rattle.dispatch_request.specs.Request.{keys_at}
+use Rattle.dispatch_request.proofs.Texts.{keys_all_known, KeysKnown}
 use Rattle.dispatch_request.proofs.Gathering.{gathering_start, gathering_on, gathering_end, gathering_full}
 use Rattle.dispatch_request.proofs.gather_keys.Goals as goal
 
 pub loop-key-init : goal.loop-key-init
-unfolding key_places
-loop-key-init c = let p = c.requires in (gathering_start _ _ _ _ p.1, keys_valid _ p.0.text)
+unfolding keys_at
+loop-key-init c =
+    let all : let v = c.args.keys.now in c.into_iter-key-iterator.result ≡ keys_at (key_places v) v = c.into_iter-key-iterator.ensures.into_iter_gives ∙ c.new-key-items.ensures in
+    record { can = tt; ends = tt; gathering = gathering_start _ _ _ _ all c.requires.1; known = rw all (keys_all_known _ _ c.requires.0) }
 
 pub overflow_add-result : goal.overflow_add-result
-overflow_add-result c = omega (arith, c.loop-key.invariant.0.place)
-
-pub overflow_add-end : goal.overflow_add-end
-overflow_add-end c =
-    let told : KeyLeads c.loop-key.at c.args.keys.now c.in-Next.key = key_next _ _ _ c.loop-key.invariant.0.low (sym c.next_key-next.ensures ∙ c.in-Next.is) in
-    omega (arith, told)
-
-pub slice_bounds-key_hash-count : goal.slice_bounds-key_hash-count
-slice_bounds-key_hash-count c =
-    let told : KeyLeads c.loop-key.at c.args.keys.now c.in-Next.key = key_next _ _ _ c.loop-key.invariant.0.low (sym c.next_key-next.ensures ∙ c.in-Next.is) in
-    omega (arith, told)
-
-pub slice_bounds-key_hash-start : goal.slice_bounds-key_hash-start
-slice_bounds-key_hash-start c =
-    let told : KeyLeads c.loop-key.at c.args.keys.now c.in-Next.key = key_next _ _ _ c.loop-key.invariant.0.low (sym c.next_key-next.ensures ∙ c.in-Next.is) in
-    omega (arith, told)
-
-pub slice_bounds-key_hash-end : goal.slice_bounds-key_hash-end
-slice_bounds-key_hash-end c =
-    let told : KeyLeads c.loop-key.at c.args.keys.now c.in-Next.key = key_next _ _ _ c.loop-key.invariant.0.low (sym c.next_key-next.ensures ∙ c.in-Next.is) in
-    omega (arith, told)
+overflow_add-result c = omega (arith, c.loop-key.invariant.gathering.place)
 
 pub key_hash-requires : goal.key_hash-requires
-key_hash-requires c =
-    let told : KeyLeads c.loop-key.at c.args.keys.now c.in-Next.key = key_next _ _ _ c.loop-key.invariant.0.low (sym c.next_key-next.ensures ∙ c.in-Next.is) in
-    lent_known _ _ _ (key_known _ _ c.loop-key.invariant.1 (told) _ c.requires.0)
-
-pub loop-key-smaller : goal.loop-key-smaller
-loop-key-smaller c =
-    let told : KeyLeads c.loop-key.at c.args.keys.now c.in-Next.key = key_next _ _ _ c.loop-key.invariant.0.low (sym c.next_key-next.ensures ∙ c.in-Next.is) in
-    omega (arith, told)
+key_hash-requires c = let known = rw c.in-Some.ensures.steps at c.loop-key.invariant.known in known.0
 
 pub loop-key-preserved : goal.loop-key-preserved
 loop-key-preserved c =
-    let told : KeyLeads c.loop-key.at c.args.keys.now c.in-Next.key = key_next _ _ _ c.loop-key.invariant.0.low (sym c.next_key-next.ensures ∙ c.in-Next.is) in
-    (gathering_on _ _ _ _ _ _ _ c.loop-key.invariant.0 _ (told) (omega arith) c.key_hash.ensures, keys_behind _ _ c.loop-key.invariant.1 (told))
-
-pub shape_of-list-in-Done : goal.shape_of-list-in-Done
-shape_of-list-in-Done c = c.loop-key.invariant.0.long
-
-pub returns-in-Done : goal.returns-in-Done
-returns-in-Done c = gathering_end _ _ _ _ _ _ _ c.loop-key.invariant.0 (key_done _ _ (sym c.next_key-next.ensures ∙ c.in-Done.is))
-
-pub shape_of-list-then-list-number : goal.shape_of-list-then-list-number
-shape_of-list-then-list-number c = c.loop-key.invariant.0.long
+    let s = c.loop-key.invariant in
+    let first = c.in-Some.ensures.steps in
+    let known = rw first at s.known in
+    record { can = tt; ends = tt; gathering = gathering_on _ _ _ _ _ _ s.gathering _ _ first (omega arith) c.key_hash.ensures; known = known.1 }
 
 pub returns-then-list-number : goal.returns-then-list-number
-returns-then-list-number c =
-    let told : KeyLeads c.loop-key.at c.args.keys.now c.in-Next.key = key_next _ _ _ c.loop-key.invariant.0.low (sym c.next_key-next.ensures ∙ c.in-Next.is) in
-    gathering_full _ _ _ _ _ _ _ c.loop-key.invariant.0 _ (told) c.if-list-number.true
+returns-then-list-number c = gathering_full _ _ _ _ _ _ c.loop-key.invariant.gathering _ _ c.in-Some.ensures.steps c.if-list-number.true
+
+pub returns : goal.returns
+returns c = gathering_end _ _ _ _ _ _ c.loop-key.invariant.gathering c.in-None.ensures.steps.0

@@ -4,4 +4,4 @@ use Rattle.index_file.proofs.put_entry.Goals as goal
 
 pub returns : goal.returns
 returns c =
-    entry_steps _ _ _ _ _ _ c.slot_place-slot.ensures.place c.get_u32-previous.ensures c.item_place.ensures c.write_item.ensures c.put_u32.ensures
+    entry_steps _ _ _ _ _ _ c.slot_place-slot.ensures.place c.get_u32-previous.ensures c.write.ensures c.put_u32.ensures

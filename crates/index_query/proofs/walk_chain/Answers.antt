@@ -4,29 +4,19 @@ use native.Mathlib.Omega.{arith}
 use Rattle.index_query.proofs.WalkLoop.{begins, out_enough, out_last, out_high, out_damaged, out_early, again_pass, again_match}
 use Rattle.index_query.proofs.walk_chain.Goals as goal
 
-pub used_count-before-requires : goal.used_count-before-requires
-used_count-before-requires c = omega (arith, c.requires)
-
-pub slot_place-requires : goal.slot_place-requires
-slot_place-requires c = let p = c.requires in (p.0, p.1)
-
-pub get_u32-number-requires : goal.get_u32-number-requires
-get_u32-number-requires c = omega (arith, c.requires, c.slot_place.ensures)
-
 pub loop-found-init : goal.loop-found-init
 loop-found-init c =
-    let p = c.requires in
-    begins _ _ _ _ _ _ _ c.used_count-before.ensures c.slot_place.ensures.place c.get_u32-number.ensures p.2 p.5 p.4
+    begins _ _ _ _ _ _ _ c.used_count-before.ensures c.slot-number.ensures c.requires.1
 
-pub read_item-item-requires : goal.read_item-item-requires
-read_item-item-requires c = (c.requires.1, omega (arith, c.loop-found.invariant))
+pub read-item-requires : goal.read-item-requires
+read-item-requires c = omega (arith, c.loop-found.invariant, c.if-before-number.false)
 
 pub overflow_add-read : goal.overflow_add-read
-overflow_add-read c = omega (arith, c.loop-found.invariant)
+overflow_add-read c = omega (arith, c.loop-found.invariant, c.args.index.now.few_items)
 
-pub judge-verdict-requires : goal.judge-verdict-requires
-judge-verdict-requires c =
-    (c.requires.3, omega (arith, c.loop-found.invariant, c.if-before-number.false))
+pub judge-requires : goal.judge-requires
+judge-requires c =
+    (c.requires.0, omega (arith, c.loop-found.invariant, c.args.index.now.few_items, c.if-before-number.false))
 
 pub offset_bounds-out-found : goal.offset_bounds-out-found
 offset_bounds-out-found c =
@@ -44,48 +34,48 @@ loop-found-smaller-in-Match c = c.if-before-number.false
 
 pub loop-found-preserved-in-Match : goal.loop-found-preserved-in-Match
 loop-found-preserved-in-Match c =
-    again_match _ _ _ _ _ _ _ _ _ _ c.loop-found.invariant c.if-found-wanted.false c.if-number-eq0.false c.if-before-number.false _ c.read_item-item.ensures
-    (sym c.in-Match.is ∙ c.judge-verdict.ensures)
+    again_match _ _ _ _ _ _ _ _ _ _ c.loop-found.invariant c.if-found-wanted.false c.if-number-eq0.false c.if-before-number.false _ c.read-item.ensures
+    (sym c.in-Match.is ∙ c.judge.ensures)
 
 pub loop-found-smaller : goal.loop-found-smaller
 loop-found-smaller c = c.if-before-number.false
 
 pub loop-found-preserved : goal.loop-found-preserved
 loop-found-preserved c =
-    again_pass _ _ _ _ _ _ _ _ _ _ c.loop-found.invariant c.if-found-wanted.false c.if-number-eq0.false c.if-before-number.false _ c.read_item-item.ensures
-    (sym c.in-Pass.is ∙ c.judge-verdict.ensures)
+    again_pass _ _ _ _ _ _ _ _ _ _ c.loop-found.invariant c.if-found-wanted.false c.if-number-eq0.false c.if-before-number.false _ c.read-item.ensures
+    (sym c.in-Pass.is ∙ c.judge.ensures)
 
 pub shape_of-out-then-found-wanted : goal.shape_of-out-then-found-wanted
 shape_of-out-then-found-wanted c = c.loop-found.invariant.long
 
 pub returns-then-found-wanted : goal.returns-then-found-wanted
-returns-then-found-wanted c = out_enough _ _ _ _ _ _ _ _ _ _ c.loop-found.invariant c.if-found-wanted.true _ c.ended.ensures
+returns-then-found-wanted c = out_enough _ _ _ _ _ _ _ _ _ _ c.loop-found.invariant c.if-found-wanted.true _ c.new.ensures
 
 pub shape_of-out-then-number-eq0 : goal.shape_of-out-then-number-eq0
 shape_of-out-then-number-eq0 c = c.loop-found.invariant.long
 
 pub returns-then-number-eq0 : goal.returns-then-number-eq0
-returns-then-number-eq0 c = out_last _ _ _ _ _ _ _ _ _ _ c.loop-found.invariant c.if-number-eq0.true _ c.ended-then-number-eq0.ensures
+returns-then-number-eq0 c = out_last _ _ _ _ _ _ _ _ _ _ c.loop-found.invariant c.if-number-eq0.true _ c.new-then-number-eq0.ensures
 
 pub shape_of-out-then-before-number : goal.shape_of-out-then-before-number
 shape_of-out-then-before-number c = c.loop-found.invariant.long
 
 pub returns-then-before-number : goal.returns-then-before-number
 returns-then-before-number c =
-    out_high _ _ _ _ _ _ _ _ _ _ c.loop-found.invariant c.if-found-wanted.false c.if-number-eq0.false c.if-before-number.true _ c.ended-then-before-number.ensures
+    out_high _ _ _ _ _ _ _ _ _ _ c.loop-found.invariant c.if-found-wanted.false c.if-number-eq0.false c.if-before-number.true _ c.new-then-before-number.ensures
 
 pub shape_of-out-in-Damaged : goal.shape_of-out-in-Damaged
 shape_of-out-in-Damaged c = c.loop-found.invariant.long
 
 pub returns-in-Damaged : goal.returns-in-Damaged
 returns-in-Damaged c =
-    out_damaged _ _ _ _ _ _ _ _ _ _ c.loop-found.invariant c.if-found-wanted.false c.if-number-eq0.false c.if-before-number.false _ c.read_item-item.ensures
-    (sym c.in-Damaged.is ∙ c.judge-verdict.ensures) _ c.ended-in-Damaged.ensures
+    out_damaged _ _ _ _ _ _ _ _ _ _ c.loop-found.invariant c.if-found-wanted.false c.if-number-eq0.false c.if-before-number.false _ c.read-item.ensures
+    (sym c.in-Damaged.is ∙ c.judge.ensures) _ c.new-in-Damaged.ensures
 
 pub shape_of-out-in-Early : goal.shape_of-out-in-Early
 shape_of-out-in-Early c = c.loop-found.invariant.long
 
 pub returns-in-Early : goal.returns-in-Early
 returns-in-Early c =
-    out_early _ _ _ _ _ _ _ _ _ _ c.loop-found.invariant c.if-found-wanted.false c.if-number-eq0.false c.if-before-number.false _ c.read_item-item.ensures
-    (sym c.in-Early.is ∙ c.judge-verdict.ensures) _ c.ended-in-Early.ensures
+    out_early _ _ _ _ _ _ _ _ _ _ c.loop-found.invariant c.if-found-wanted.false c.if-number-eq0.false c.if-before-number.false _ c.read-item.ensures
+    (sym c.in-Early.is ∙ c.judge.ensures) _ c.new-in-Early.ensures

@@ -3,7 +3,7 @@ use Rattle.index_query.proofs.WalkLoop.{Going}
 use Rattle.index_query.proofs.walk_chain.Given as goal
 
 abbrev pub invariant-loop-found : goal.invariant-loop-found
-invariant-loop-found l = Going l.index l.k l.criteria l.wanted l.initial.out l.out l.before l.number l.found l.read
+invariant-loop-found l = Going l.index.bytes.now l.index.slots.count l.criteria l.wanted l.initial.out l.out l.before l.number l.found l.read
 
 abbrev pub decreases-loop-found : goal.decreases-loop-found
 decreases-loop-found l = l.before

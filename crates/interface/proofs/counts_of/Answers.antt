@@ -1,5 +1,5 @@
 -- `interface::counts_of` meets its contract: the numbers behind the position. Assumes nothing.
-use Rattle.interface.proofs.CountsLent.{counts_lent}
+use Rattle.interface.proofs.Counts.{counts_lent}
 use borrow.Author.Rules.{rules}
 use Rattle.interface.proofs.counts_of.Goals as goal
 

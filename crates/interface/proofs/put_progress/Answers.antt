@@ -1,8 +1,7 @@
--- `interface::put_progress` meets its contract: each number is the one that the definition names. Assumes nothing.
-use mathlib.Core.Path.{refl}
-use Rattle.interface.specs.Structs.{progress_of, numbers_from}
+-- `interface::put_progress` meets its contract. Assumes nothing.
+use native.Mathlib.Omega.{arith}
+use Rattle.interface.proofs.Counts.{progress_made}
 use Rattle.interface.proofs.put_progress.Goals as goal
 
 pub returns : goal.returns
-unfolding progress_of numbers_from
-returns c = refl
+returns c = let w = c.loop-i.invariant in progress_made _ _ _ w.long w.position (λ j h. w.counts j (omega arith))

@@ -1,13 +1,7 @@
 -- `java_hash::magnitude` meets its contract. Assumes nothing.
-use Rattle.std.proofs.Common.{arith, rules}
-use Rattle.java_hash.proofs.HashLaws.{absolute_plus, absolute_least, absolute_minus}
+use Rattle.std.proofs.Common.{arith}
+use Rattle.java_hash.proofs.HashLaws.{absolute_is}
 use Rattle.java_hash.proofs.magnitude.Goals as goal
 
-pub returns-then-h-lt2147483648 : goal.returns-then-h-lt2147483648
-returns-then-h-lt2147483648 c = absolute_plus _ c.if-h-lt2147483648.true
-
-pub returns-then-h-eq2147483648 : goal.returns-then-h-eq2147483648
-returns-then-h-eq2147483648 c = absolute_least _ c.if-h-eq2147483648.true
-
 pub returns : goal.returns
-returns c = absolute_minus _ (omega arith) (omega arith)
+returns c = absolute_is _ (omega arith) _ c.cast_signed.ensures c.checked_abs.ensures c.unwrap_or.ensures c.cast_unsigned.ensures

@@ -1,6 +1,5 @@
 -- `java_hash::step_code` meets its contract. Assumes nothing.
 use Rattle.java_hash.proofs.UnitLaws.{one_unit, two_units}
-use Rattle.std.proofs.Common.{rules}
 use Rattle.java_hash.proofs.step_code.Goals as goal
 
 pub returns-then-code-lt65536 : goal.returns-then-code-lt65536

@@ -3,4 +3,4 @@ use Rattle.swistopal_facts.proofs.Told.{index_checked}
 use Rattle.swistopal_facts.proofs.swistopal_check_index.Goals as goal
 
 pub returns : goal.returns
-returns c = index_checked _ _ c.index_sizes_in-z.ensures c.index_answer-checked.ensures c.number.ensures
+returns c = index_checked _ _ c.index_sizes_in-z.ensures c.index_answer.ensures c.from.ensures

@@ -4,4 +4,4 @@ use Rattle.swistopal_facts.proofs.Told.{values_made}
 use Rattle.swistopal_facts.proofs.swistopal_find_values.Goals as goal
 
 pub returns : goal.returns
-returns c = values_made _ (scanned_values _ c.scan-text.ensures) c.place_of-tags.ensures c.place_of-keys.ensures c.place_of-unique_key.ensures
+returns c = values_made _ (scanned_values _ c.scan.ensures) c.place_of-tags.ensures c.place_of-keys.ensures c.place_of-unique_key.ensures

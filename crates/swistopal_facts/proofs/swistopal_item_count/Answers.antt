@@ -3,7 +3,7 @@ use Rattle.properties.proofs.Places.{scanned_values}
 use Rattle.swistopal_facts.proofs.swistopal_item_count.Goals as goal
 
 pub item_count-requires : goal.item_count-requires
-item_count-requires c = scanned_values _ c.scan-text.ensures
+item_count-requires c = scanned_values _ c.scan.ensures
 
 pub returns : goal.returns
 returns c = c.item_count.ensures

@@ -3,4 +3,4 @@ use Rattle.swistopal_facts.proofs.Told.{list_made}
 use Rattle.swistopal_facts.proofs.swistopal_list.Goals as goal
 
 pub returns : goal.returns
-returns c = list_made _ _ _ _ c.list-made.ensures c.number.ensures
+returns c = list_made _ _ _ _ c.list-made.ensures c.from.ensures

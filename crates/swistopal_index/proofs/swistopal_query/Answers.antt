@@ -4,4 +4,4 @@ use Rattle.swistopal_index.proofs.swistopal_query.Goals as goal
 
 pub returns : goal.returns
 returns c =
-    query_made _ _ _ _ _ _ _ _ _ _ _ c.index_sizes_in.ensures c.query-made.ensures c.number.ensures
+    query_made _ _ _ _ _ _ _ _ _ _ _ c.index_sizes_in.ensures c.query-made.ensures c.from.ensures

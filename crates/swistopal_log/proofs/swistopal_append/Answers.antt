@@ -4,4 +4,4 @@ use Rattle.swistopal_log.proofs.swistopal_append.Goals as goal
 
 pub returns : goal.returns
 returns c =
-    append_made _ _ _ _ _ _ _ _ c.geometry_in.ensures c.append-made.ensures c.number.ensures
+    append_made _ _ _ _ _ _ _ _ c.geometry_in.ensures c.append-made.ensures c.from.ensures

@@ -3,4 +3,4 @@ use Rattle.swistopal_log.proofs.Made.{record_read}
 use Rattle.swistopal_log.proofs.swistopal_read_record.Goals as goal
 
 pub returns : goal.returns
-returns c = record_read _ _ _ _ _ _ _ c.geometry_in.ensures c.read_record-answer.ensures c.number.ensures
+returns c = record_read _ _ _ _ _ _ _ c.geometry_in.ensures c.read_record-answer.ensures c.from.ensures
