@@ -35,7 +35,7 @@ refused() {
     fi
 }
 
-refused dispatch_step QueueOffset LogPosition 'request.row, offset, entries' 'request.row, position, entries'
+refused dispatch_step QueueOffset LogPosition 'row, queue_offset, entries' 'row, position, entries'
 refused dispatch_request QueueOffset LogPosition 'queue_offset: QueueOffset(codec::get_u64(own, Record::QUEUE_OFFSET)),' 'queue_offset: p,'
 refused swistopal QueueOffset LogPosition 'QueueOffset(start)' 'LogPosition(start)'
 refused interface LogPosition QueueOffset 'first_position: LogPosition(sizes[1]),' 'first_position: units::QueueOffset(sizes[1]),'
