@@ -8,7 +8,7 @@ use lib.ListN.{length, get_or, take, drop, replicate, length-append, length-drop
 use borrow.Rule.Slice.PartMut.{put_mid}
 use Rattle.std.specs.Int.{byte_at, byte_worth, bytes_high_first, sum_through}
 use Rattle.codec.specs.Bytes.{big, little, bytes_of, value_of, part, field, overwrite, Bytes}
-use Rattle.codec.proofs.Numbers.{length_bytes, value_lt, little_append}
+use Rattle.codec.proofs.Numbers.{length_bytes, bytes_value, value_lt, little_append}
 use Rattle.codec.proofs.Parts.{length_part, bytes_part, lent_part, put_part}
 
 byte_by_place : (k n : ℕ) → byte_at k n ≡ n / 256 ^ k % 256
@@ -96,3 +96,14 @@ read_short k w at l {p} {x} m h bytes e f =
     let v : x ≡ value_of little p = f ∙ little_number k _ long ∙ little_append p (drop w (replicate (suc k) 0)) ∙ rw (zero_bytes (suc k) w) (omega arith) in
     let small : Bytes p = rw q (bytes_part w at l bytes) in
     (rw q at v, rw (v, ← n) (value_lt little p small))
+
+-- ---- a number turned round, its lowest byte first
+
+big_small : (w v i : ℕ) → get_or (bytes_of big w v) i 0 < 256
+unfolding bytes_of
+big_small zero v i = omega arith
+big_small (suc w) v zero = omega arith
+big_small (suc w) v (suc i) = big_small w v i
+
+pub turned_bytes : (w v x : ℕ) → x ≡ value_of little (bytes_of big w v) → bytes_of little w x ≡ bytes_of big w v
+turned_bytes w v x e = rw e (rw (length_bytes big w v) at (bytes_value little (bytes_of big w v) (big_small w v)))

@@ -80,23 +80,22 @@ pub in_rows : (bytes : List ℕ) (qs : List Queue) → rows_within 16 bytes ≡ 
 in_rows bytes qs e = e ∙ ap Some (sym (rows_of_is bytes qs e))
 
 pub rows_none : (bytes : List ℕ) → length bytes ≡ 0 → rows_of bytes ≡ []
-unfolding rows_of
-rows_none [] h = rw (rows_empty 16)
+rows_none [] h = rows_of_is [] [] (rows_empty 16)
 rows_none (b ∷ l) h = absurd (omega arith)
 
 module _ (bytes : List ℕ) (made : InRows bytes) (more : 0 < length bytes) where
   first : Split 15 bytes (rows_of bytes)
   first = split 15 bytes (rows_of bytes) more made
 
-  pub row_begins : Begins bytes (row_length bytes)
+  pub row_begins : Begins bytes
   row_begins = begins bytes first.ok
 
   pub first_row : {size : ℕ} → size ≡ field little 2 0 bytes → First bytes size
   unfolding row_length
   first_row {size} own =
-      let b : Begins bytes size = rw own row_begins in
-      let fits = b.fits in
+      let b = row_begins in
+      let fits : size ≤ length bytes = rw own b.fits in
       let rest = take (length bytes - size) (drop size bytes) in
       let behind : rest ≡ drop size bytes = take_all (length bytes - size) (drop size bytes) (rw length-drop (omega arith)) in
       let m : rows_within 16 rest ≡ Some first.rest = rw (behind, own) (rows_more 15 (drop (row_length bytes) bytes) first.rest first.made) in
-      record { here = b; rest = in_rows rest first.rest m; all = first.all ∙ rw (rows_of_is rest first.rest m) }
+      record { begins = b; own = own; fits = fits; rest = in_rows rest first.rest m; all = first.all ∙ rw (rows_of_is rest first.rest m) }

@@ -14,7 +14,7 @@ use Rattle.codec.specs.Choice.{pick}
 use Rattle.codec.proofs.Parts.{part_left}
 use Rattle.codec.proofs.Fields.{field_left}
 use Rattle.directory.specs.Directory.{Queue, row_length, row_kind, row_id, row_queue, row_ok, before, rows_within}
-use Rattle.directory.proofs.Reading.{nothing, begun}
+use Rattle.directory.proofs.Reading.{nothing, begins}
 use Rattle.directory.proofs.Chain.{rows_empty, rows_past, rows_first, split}
 
 -- ---- one row, and what stands behind it
@@ -48,7 +48,7 @@ module _ (b r : List ℕ) (head : 8 ≤ length b) where
 lone : (bytes : List ℕ) (size : ℕ) → row_ok bytes ≡ true → size ≡ row_length bytes → rows_within 1 (take size bytes) ≡ Some (row_queue bytes ∷ [])
 unfolding pick before
 lone bytes size ok own =
-    let g = begun bytes ok in
+    let g = begins bytes ok in
     let b = take size bytes in
     let r = drop size bytes in
     let low = g.low in
@@ -84,12 +84,12 @@ rows_after zero m (x ∷ l) r qs e = absurd (nothing (sym (rows_past (x ∷ l) (
 rows_after (suc n) m (x ∷ l) r qs e =
     let b = x ∷ l in
     let s = split n b qs (omega arith) e in
-    let g = begun b s.ok in
+    let g = begins b s.ok in
     let low = g.low in
     let fits = g.fits in
     rw (s.all, suc-add)
     (rows_first (b ++ r) (omega arith) (length s.rest + m)
-    ∙ rw (ok_front b r g.head (omega arith) fits, s.ok, queue_front b r g.head (omega arith) fits, length_front b r g.head, drop-append-le (row_length b) b r fits, rows_after n m (drop (row_length b) b) r s.rest s.made))
+    ∙ rw (ok_front b r (omega arith) (omega arith) fits, s.ok, queue_front b r (omega arith) (omega arith) fits, length_front b r (omega arith), drop-append-le (row_length b) b r fits, rows_after n m (drop (row_length b) b) r s.rest s.made))
 
 -- all rows are the first ones and those of the bytes behind them
 pub record Onward (m : ℕ) (r : List ℕ) (qs all : List Queue) : Type 0 where

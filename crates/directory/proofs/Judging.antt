@@ -10,9 +10,9 @@ use lib.Seq.{take_all}
 use borrow.Author.Tests.{eqb-true, eqb-false}
 use Rattle.std.specs.Prelude.{Option, None, Some, is_some}
 use Rattle.std.specs.Bool.{then_some}
-use Rattle.directory.specs.Directory.{Queue, row_queue, row_ok, rows_within, row_from, distinct, queues, row_count}
-use Rattle.directory.specs.Inner.{row_size, rows_of, InRows, Begins, bucket_of}
-use Rattle.directory.proofs.Reading.{nothing, begins, size_some, size_ok}
+use Rattle.directory.specs.Directory.{Queue, row_length, row_queue, row_ok, rows_within, row_from, distinct, queues, row_count}
+use Rattle.directory.specs.Inner.{rows_of, InRows, bucket_of}
+use Rattle.directory.proofs.Reading.{nothing, begins}
 use Rattle.directory.proofs.Chain.{rows_empty, rows_past, split, rows_up, rows_of_is, in_rows}
 use Rattle.directory.proofs.Fronts.{Onward, onward, one_more}
 use Rattle.directory.proofs.Judged.{sound, none_listed, all_queues, all_listed}
@@ -104,24 +104,32 @@ lent l at = take (length l - at) (drop at l)
 lent_is : (l : List ℕ) (at : ℕ) → lent l at ≡ drop at l
 lent_is l at = take_all (length l - at) (drop at l) (rw length-drop (omega arith))
 
-pub refused_bad : {l : List ℕ} {at rows : ℕ} {met : List Bool} → Noting l at rows met → at < length l → (rows ≡ 16 → ⊥) → None ≡ row_size (lent l at) → None ≡ row_count l
-refused_bad {l} {at} g inside room e = none_listed l (λ p. size_some (drop at l) (ahead g inside room p).ok (sym (rw (lent_is l at) at e)))
+pub refused_bad : {l : List ℕ} {at rows : ℕ} {met : List Bool} {t : Bool} → Noting l at rows met → at < length l → (rows ≡ 16 → ⊥) → t ≡ row_ok (lent l at) → t ≡ false → None ≡ row_count l
+refused_bad {l} {at} g inside room e f =
+    none_listed l (λ p. true≢false (sym (ahead g inside room p).ok ∙ sym (rw (lent_is l at) at e) ∙ f))
 
 pub record Turn (l : List ℕ) (at rows : ℕ) (met : List Bool) (size : ℕ) (q : Queue) : Type 0 where
   pub noting : Noting l at rows met
   pub inside : at < length l
   pub room : rows ≡ 16 → ⊥
   pub ok : row_ok (drop at l) ≡ true
-  pub sized : Begins (drop at l) size
+  pub sized : size ≡ row_length (drop at l)
   pub own : q ≡ row_queue (drop at l)
 
-pub turn : {l : List ℕ} {at rows : ℕ} {met : List Bool} {size : ℕ} {q : Queue} {r : Option ℕ}
-    → Noting l at rows met → at < length l → (rows ≡ 16 → ⊥) → r ≡ row_size (lent l at) → r ≡ Some size → q ≡ row_queue (lent l at) → Turn l at rows met size q
-turn {l} {at} g inside room e f own =
-    let z = size_ok (drop at l) (rw (lent_is l at) at e) f in
-    record { noting = g; inside = inside; room = room; ok = z.0; sized = rw z.1 (begins (drop at l) z.0); own = rw (lent_is l at) at own }
+pub turn : {l : List ℕ} {at rows : ℕ} {met : List Bool} {size : ℕ} {q : Queue}
+    → Noting l at rows met → at < length l → (rows ≡ 16 → ⊥) → row_ok (lent l at) ≡ true → size ≡ row_length (lent l at) → q ≡ row_queue (lent l at) → Turn l at rows met size q
+turn {l} {at} g inside room ok sized own =
+    record { noting = g; inside = inside; room = room; ok = rw (lent_is l at) at ok; sized = rw (lent_is l at) at sized; own = rw (lent_is l at) at own }
 
 module _ {l : List ℕ} {at rows : ℕ} {met : List Bool} {size : ℕ} {q : Queue} (t : Turn l at rows met size q) where
+  pub within_on : at + size ≤ length l
+  within_on =
+      let b = begins (drop at l) t.ok in
+      let fits = rw length-drop at b.fits in
+      let sized = t.sized in
+      let inside = t.inside in
+      omega arith
+
   found_before : {r : Option ℕ} → r ≡ row_from 0 q.topic q.id (rows_of (take at l)) → r ≡ row_from 0 q.topic q.id t.noting.qs
   found_before e = e ∙ rw (rows_of_is (take at l) t.noting.qs (rows_made t.noting))
 
@@ -154,16 +162,13 @@ module _ {l : List ℕ} {at rows : ℕ} {met : List Bool} {size : ℕ} {q : Queu
         let g = t.noting in
         let few = g.few in
         let many = g.many in
-        let z = t.sized in
-        let fits = rw length-drop at z.fits in
-        let inside = t.inside in
         let room = t.room in
         let long : bucket_of q < length met = rw (g.long, ← place) low in
         record {
           qs = g.qs ++ q ∷ [];
-          within = omega arith;
+          within = within_on;
           few = omega (arith, room);
-          made = rw t.own (one_more l at rows g.qs g.made many size t.ok z.own);
+          made = rw t.own (one_more l at rows g.qs g.made many size t.ok t.sized);
           many = rw length-append (omega arith);
           apart = apart_more g.qs q g.apart new;
           long = rw length-set g.long;

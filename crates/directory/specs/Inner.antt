@@ -1,16 +1,11 @@
 -- What the inner functions of the directory promise. Assumes nothing.
-use Rattle.std.specs.Prelude.{ℕ, ◌+◌, ◌-◌, ◌*◌, ◌%◌, ◌≤◌, ◌≡◌, Option, None, Some, unwrap_or, List, [], ◌∷◌, length, take, drop}
-use Rattle.codec.specs.Choice.{pick}
+use Rattle.std.specs.Prelude.{ℕ, ◌+◌, ◌-◌, ◌*◌, ◌%◌, ◌≤◌, ◌≡◌, Some, unwrap_or, List, [], ◌∷◌, length, take, drop}
 use Rattle.directory.specs.declared.Row.{Row}
-use Rattle.directory.specs.Directory.{Queue, row_length, row_queue, row_ok, rows_within}
+use Rattle.directory.specs.Directory.{Queue, row_length, row_queue, rows_within}
 
 -- the queue that a row tells of
 abbrev pub queue_of : Row → Queue
 queue_of r = record { topic = r.topic.now; id = r.id }
-
--- the length of the row that the bytes begin with, if they begin with one
-unfoldable pub row_size : List ℕ → Option ℕ
-row_size bytes = pick (row_ok bytes) (Some (row_length bytes)) None
 
 -- the queues of the rows that the bytes are made of
 unfoldable pub rows_of : List ℕ → List Queue
@@ -20,15 +15,16 @@ rows_of bytes = unwrap_or (rows_within 16 bytes) []
 abbrev pub InRows : List ℕ → Type 0
 InRows bytes = rows_within 16 bytes ≡ Some (rows_of bytes)
 
--- the bytes begin with a row of this size
-pub record Begins (bytes : List ℕ) (size : ℕ) : Type 0 where
-  pub low : 9 ≤ size
-  pub fits : size ≤ length bytes
-  pub own : size ≡ row_length bytes
+-- the bytes begin with a row
+pub record Begins (bytes : List ℕ) : Type 0 where
+  pub low : 9 ≤ row_length bytes
+  pub fits : row_length bytes ≤ length bytes
 
 -- bytes made of rows: the first has this size, and the others stand behind it
 pub record First (bytes : List ℕ) (size : ℕ) : Type 0 where
-  pub here : Begins bytes size
+  pub begins : Begins bytes
+  pub own : size ≡ row_length bytes
+  pub fits : size ≤ length bytes
   pub rest : InRows (take (length bytes - size) (drop size bytes))
   pub all : rows_of bytes ≡ row_queue bytes ∷ rows_of (take (length bytes - size) (drop size bytes))
 

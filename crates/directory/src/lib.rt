@@ -1,10 +1,10 @@
 // The directory of queues: judged once, then asked for the row of a topic and id.
 #![tactic(auto)]
 
-ghost use Rattle.std.specs.Prelude.{◌≡◌, ◌<◌, length, IfSome};
+ghost use Rattle.std.specs.Prelude.{◌≡◌, ◌+◌, ◌<◌, length};
 ghost use Rattle.std.specs.Iterator.{YieldsFirstBy, item_count};
-ghost use Rattle.directory.specs.Directory.{row_queue, names, row_from, queues, row_count, row_of};
-ghost use Rattle.directory.specs.Inner.{queue_of, row_size, rows_of, InRows, Begins, First, bucket_of};
+ghost use Rattle.directory.specs.Directory.{row_length, row_queue, row_ok, names, row_from, queues, row_count, row_of};
+ghost use Rattle.directory.specs.Inner.{queue_of, rows_of, InRows, Begins, First, bucket_of};
 
 // The number that stands for no row, behind those of all rows.
 pub const NO_ROW: u64 = 16;
@@ -21,15 +21,25 @@ struct Row<'a> {
 }
 
 impl<'a> Row<'a> {
-    // The row of this size that the bytes begin with.
-    fn new(bytes: &'a [u8], size: usize) -> Self
-        requires { Begins bytes.now size }
-        ensures { queue_of result ≡ row_queue bytes.now }
+    // The row that the bytes begin with.
+    #[tactic(auto, unfolding(crate::specs::Directory::row_length, crate::specs::Directory::row_id, crate::specs::Directory::row_queue, codec::specs::Bytes::part))]
+    fn new(bytes: &'a [u8]) -> Self
+        requires { Begins bytes.now }
+        ensures queue { queue_of result ≡ row_queue bytes.now }
+        ensures size { length result.topic.now + 8 ≡ row_length bytes.now }
     {
+        let size = codec::get_le(bytes, 0, 2) as usize;
         Row {
             topic: &bytes[TOPIC..size],
             id: codec::get_u32_le(bytes, 4),
         }
+    }
+
+    // How many bytes it has.
+    fn size(self) -> usize
+        ensures { result ≡ length self.entry.topic.now + 8 }
+    {
+        self.topic.len() + TOPIC
     }
 
     // One of 16 places, by the size of its topic and its id.
@@ -45,6 +55,20 @@ impl<'a> Row<'a> {
     {
         self.id == id && self.topic.len() == topic.len() && codec::same_at(self.topic, 0, topic)
     }
+}
+
+// Whether the bytes begin with a row.
+fn row_ok(bytes: &[u8]) -> bool
+    ensures { result ≡ row_ok bytes.now }
+{
+    if bytes.len() < TOPIC {
+        return false;
+    }
+    let size = codec::get_le(bytes, 0, 2) as usize;
+    let kind = codec::get_u16_le(bytes, 2);
+    let id = codec::get_u32_le(bytes, 4);
+    let fits = (9 <= size) & (size <= 135) & (size <= bytes.len());
+    fits & ((kind == 1) & (id < 2147483648))
 }
 
 // The length of the first of these rows.
@@ -76,23 +100,8 @@ impl<'a> Iterator for Rows<'a> {
         }
         let size = first_size(rows);
         self.rest = &rows[size..];
-        Some(Row::new(rows, size))
+        Some(Row::new(rows))
     }
-}
-
-// The length of the row that the bytes begin with, if they begin with one.
-fn row_size(bytes: &[u8]) -> Option<usize>
-    ensures judged { result ≡ row_size bytes.now }
-    ensures begins { IfSome result (Begins bytes.now) }
-{
-    if bytes.len() < TOPIC {
-        return None;
-    }
-    let size = codec::get_le(bytes, 0, 2) as usize;
-    let kind = codec::get_u16_le(bytes, 2);
-    let id = codec::get_u32_le(bytes, 4);
-    let fits = (9 <= size) & (size <= 135) & (size <= bytes.len());
-    (fits & ((kind == 1) & (id < 2147483648))).then_some(size)
 }
 
 // The first row with this topic and id.
@@ -115,15 +124,17 @@ pub fn validate(dir: &[u8]) -> Option<usize>
             return None;
         }
         let rest = &dir[at..];
-        let size = row_size(rest)?;
-        let row = Row::new(rest, size);
+        if !row_ok(rest) {
+            return None;
+        }
+        let row = Row::new(rest);
         let k = row.bucket();
         // A row of the same topic and id would have been met there.
         if met[k] && row_from(&dir[..at], row.topic, row.id).is_some() {
             return None;
         }
         met[k] = true;
-        at += size;
+        at += row.size();
         rows += 1;
     }
     (rows != 0).then_some(rows)

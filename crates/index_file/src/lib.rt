@@ -53,14 +53,14 @@ pub struct Slots {
 
 impl Slots {
     // The place of a hash's slot.
-    fn slot_place(self, hash: u32) -> usize
+    pub fn slot_place(self, hash: u32) -> usize
         ensures { SlotPlace self.count (slot_of self.count hash) result }
     {
         Header::LEN + 4 * (java_hash::slot(hash, self.count) as usize)
     }
 
     // The place of item u, behind all slots.
-    fn item_place(self, u: u32) -> usize
+    pub fn item_place(self, u: u32) -> usize
         ensures { result ≡ item_at self.count u }
     {
         Header::LEN + 4 * (self.count as usize) + 20 * (u as usize)

@@ -1,5 +1,5 @@
 -- The answers' numbers: document 01, section "Answer numbers". Assumes nothing.
-use Rattle.std.specs.Prelude.{ℕ, zero, suc, Option, None, Some, List, [], ◌∷◌}
+use Rattle.std.specs.Prelude.{ℕ, zero, suc, Option, None, Some, List, [], ◌∷◌, ◌++◌, codes, decimal}
 use Rattle.units.specs.declared.Answer.{Answer}
 use Rattle.units.specs.declared.Answer.TheVariants.{Done, BadSizes, BadPosition, BadDirectory, BadHeader, BadRequest, LogFull, BlankWritten, NotReadable, BudgetSpent, Damaged, QueueNotListed, OutOfStep, QueueFull, IndexFull, IndexAhead, ChainBroken, Malformed}
 
@@ -37,3 +37,7 @@ row_at (suc n) (a ∷ rest) = row_at n rest
 -- the answer in the table's row n, if there is that row
 unfoldable pub answer_of : ℕ → Option Answer
 answer_of n = row_at n answers
+
+-- what is said of a number that no answer has
+abbrev pub unknown_text : ℕ → List ℕ
+unknown_text n = codes "no answer has number " ++ decimal n

@@ -138,6 +138,11 @@ impl TryFrom<u32> for Answer {
 }
 
 impl fmt::Display for UnknownAnswer {
+    ghost use Rattle.std.specs.Prelude.{Some};
+    ghost use Rattle.units.specs.Answers.{unknown_text};
+
+    ghost output = { λ unknown. Some (unknown_text unknown.0) };
+
     fn fmt<W: fmt::Write>(&self, f: &mut fmt::Formatter<W>) -> fmt::Result {
         write!(f, "no answer has number {}", self.0)
     }

@@ -18,37 +18,43 @@ impl Char {
     fn of_one(a: u8) -> Self
         ensures { result ≡ char 1 a }
     {
-        Char {
-            size: 1,
-            code: u32::from(a),
-        }
+        let code = codec::wide(a) as u32;
+        Char { size: 1, code }
     }
 
     fn of_two(a: u8, b: u8) -> Self
         ensures { result ≡ char 2 (a % 32 * 64 + b % 64) }
     {
+        let a = codec::wide(a) as u32;
+        let b = codec::wide(b) as u32;
         Char {
             size: 2,
-            code: u32::from(a) % 32 * 64 + u32::from(b) % 64,
+            code: a % 32 * 64 + b % 64,
         }
     }
 
     fn of_three(a: u8, b: u8, c: u8) -> Self
         ensures { result ≡ char 3 ((a % 16 * 64 + b % 64) * 64 + c % 64) }
     {
+        let a = codec::wide(a) as u32;
+        let b = codec::wide(b) as u32;
+        let c = codec::wide(c) as u32;
         Char {
             size: 3,
-            code: (u32::from(a) % 16 * 64 + u32::from(b) % 64) * 64 + u32::from(c) % 64,
+            code: (a % 16 * 64 + b % 64) * 64 + c % 64,
         }
     }
 
     fn of_four(a: u8, b: u8, c: u8, d: u8) -> Self
         ensures { result ≡ char 4 (((a % 8 * 64 + b % 64) * 64 + c % 64) * 64 + d % 64) }
     {
+        let a = codec::wide(a) as u32;
+        let b = codec::wide(b) as u32;
+        let c = codec::wide(c) as u32;
+        let d = codec::wide(d) as u32;
         Char {
             size: 4,
-            code: ((u32::from(a) % 8 * 64 + u32::from(b) % 64) * 64 + u32::from(c) % 64) * 64
-                + u32::from(d) % 64,
+            code: ((a % 8 * 64 + b % 64) * 64 + c % 64) * 64 + d % 64,
         }
     }
 }
@@ -91,6 +97,9 @@ fn is_three(a: u8, b: u8, c: u8) -> bool
 fn is_four(a: u8, b: u8, c: u8, d: u8) -> bool
     ensures { result ≡ four a b c d }
 {
+    // As wide numbers: of single bytes each test would wait for what its register held before.
+    let a = codec::wide(a);
+    let b = codec::wide(b);
     let low = if a == 240 { 144 } else { 128 };
     let high = if a == 244 { 143 } else { 191 };
     ((240 <= a) & (a <= 244)) & ((low <= b) & (b <= high)) & is_tail(c) & is_tail(d)
