@@ -97,9 +97,6 @@ fn is_three(a: u8, b: u8, c: u8) -> bool
 fn is_four(a: u8, b: u8, c: u8, d: u8) -> bool
     ensures { result ≡ four a b c d }
 {
-    // As wide numbers: of single bytes each test would wait for what its register held before.
-    let a = codec::wide(a);
-    let b = codec::wide(b);
     let low = if a == 240 { 144 } else { 128 };
     let high = if a == 244 { 143 } else { 191 };
     ((240 <= a) & (a <= 244)) & ((low <= b) & (b <= high)) & is_tail(c) & is_tail(d)
