@@ -432,6 +432,11 @@ three_first : (a b c : ℕ) → three a b c ≡ true → (one a ≡ false) × (t
 three_first a b c e =
     below_or a 224 ((one a ≡ false) × (two a b ≡ false)) (λ h. absurd (clash (three a b c) (three_under a b c 0 h) e)) (λ h. (one_not a b c 0 (omega arith), two_over a b c 0 h))
 
+four_first : (a b c d : ℕ) → four a b c d ≡ true → (one a ≡ false) × (two a b ≡ false) × (three a b c ≡ false)
+four_first a b c d e =
+    below_or a 240 ((one a ≡ false) × (two a b ≡ false) × (three a b c ≡ false)) (λ h. absurd (clash (four a b c d) (four_under a b c d h) e)) (λ h.
+    (one_not a b c d (omega arith), two_over a b c d (omega arith), three_over a b c d (omega arith)))
+
 -- ---- the last byte of a character is a tail, so it is there
 
 either : (a b c : Bool) → (a ≡ true → c ≡ true) → (b ≡ true → c ≡ true) → a || b ≡ true → c ≡ true
@@ -600,3 +605,6 @@ module _ (s : List ℕ) (at : ℕ) where
 
   pub sized3 : three (get_or s at 0) (get_or s (at + 1) 0) (get_or s (at + 2) 0) ≡ true → (front (drop at s)).size ≡ 3
   sized3 w = let m = three_first _ _ _ w in rw (front_here s at, first3 _ _ _ _ m.0 m.1 w)
+
+  pub sized4 : four (get_or s at 0) (get_or s (at + 1) 0) (get_or s (at + 2) 0) (get_or s (at + 3) 0) ≡ true → (front (drop at s)).size ≡ 4
+  sized4 w = let m = four_first _ _ _ _ w in rw (front_here s at, first4 _ _ _ _ m.0 m.1 m.2 w)

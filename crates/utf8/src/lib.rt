@@ -198,6 +198,7 @@ fn past_like(s: &[u8], at: usize, size: usize) -> usize
         1 => past(s, at, 1, |i| s[i] < 128),
         2 => past(s, at, 2, |i| is_two(s[i], s[i + 1])),
         3 => past(s, at, 3, |i| is_three(s[i], s[i + 1], s[i + 2])),
+        4 => past(s, at, 4, |i| is_four(s[i], s[i + 1], s[i + 2], s[i + 3])),
         _ => at,
     }
 }
